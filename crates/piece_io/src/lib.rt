@@ -1,0 +1,11 @@
+//! What the program reads and writes through, objects in memory that do the same, and the cutting of a
+//! stream into lines.
+#![tactic(auto)]
+
+pub mod files;
+pub mod sink;
+pub mod source;
+
+pub use files::Files;
+pub use sink::Sink;
+pub use source::{Failed, Source};
