@@ -3,6 +3,7 @@
 use Rattle.std.specs.Prelude.{ℕ, zero, suc, ◌+◌, ◌-◌, ◌==◌, List, [], ◌∷◌, ◌++◌, length, map, filter, Bool, true, false, nat_eq, nat_lt, nat_le, if◌then◌else◌, Option, Some, None}
 use Rattle.std.specs.List.{starts_with}
 use Rattle.text_pos.specs.declared.length.Pos.{Pos}
+use Rattle.text_pos.specs.KindSet.{only}
 use Rattle.pairing_defs.specs.declared.Role.{Role}
 use Rattle.pairing_defs.specs.declared.Role.TheVariants.{Opener, Closer}
 use Rattle.pairing_defs.specs.declared.BracketText.{BracketText}
@@ -12,9 +13,9 @@ use Rattle.pairing_defs.specs.declared.Mark.{Mark}
 -- `{` `}`, `[` `]` and `(` `)`, of kinds 0, 1 and 2
 abbrev pub usual_texts : List BracketText
 usual_texts =
-    record { text = 123 ∷ []; role = Opener 0 } ∷ record { text = 125 ∷ []; role = Closer 1 }
-    ∷ record { text = 91 ∷ []; role = Opener 1 } ∷ record { text = 93 ∷ []; role = Closer 2 }
-    ∷ record { text = 40 ∷ []; role = Opener 2 } ∷ record { text = 41 ∷ []; role = Closer 4 } ∷ []
+    record { text = 123 ∷ []; role = Opener 0 } ∷ record { text = 125 ∷ []; role = Closer (only 0) }
+    ∷ record { text = 91 ∷ []; role = Opener 1 } ∷ record { text = 93 ∷ []; role = Closer (only 1) }
+    ∷ record { text = 40 ∷ []; role = Opener 2 } ∷ record { text = 41 ∷ []; role = Closer (only 2) } ∷ []
 
 -- whether the text stands at the front of what is left of a line; an empty text stands nowhere
 abbrev pub stands_at : List ℕ → BracketText → Bool

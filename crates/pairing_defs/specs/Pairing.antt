@@ -2,6 +2,7 @@
 -- that it closes, as in VS Code's bracketPairsTree; the limit on nesting and the colours are this project's own.
 use Rattle.std.specs.Prelude.{ℕ, zero, suc, ◌+◌, ◌%◌, ◌==◌, List, [], ◌∷◌, ◌++◌, length, count_by, Bool, true, false, nat_le, if◌then◌else◌, Option, Some, None, is_some}
 use Rattle.text_pos.specs.declared.length.Pos.{Pos}
+use Rattle.text_pos.specs.declared.kinds.Kinds.{Kinds}
 use Rattle.text_pos.specs.KindSet.{holds}
 use Rattle.pairing_defs.specs.declared.Role.{Role}
 use Rattle.pairing_defs.specs.declared.Role.TheVariants.{Opener, Closer}
@@ -30,7 +31,7 @@ abbrev pub of_kind : ℕ → List Entry → ℕ
 of_kind kind entries = count_by (λ e. e.kind == kind) entries
 
 -- the last open entry of one of these kinds and all before it; none where there is no such entry
-abbrev pub from_last : ℕ → List Entry → List Entry
+abbrev pub from_last : Kinds → List Entry → List Entry
 from_last kinds [] = []
 from_last kinds (e ∷ below) = if holds kinds e.kind then e ∷ below else from_last kinds below
 

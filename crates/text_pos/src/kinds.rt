@@ -1,23 +1,31 @@
 ghost use Rattle.std.specs.Prelude.{◌≡◌, ℕ, ◌^◌, ◌<◌, ◌&&◌, ◌||◌, ◌==◌, ◌↔◌, Bool, false, not, IsTrue};
-ghost use Rattle.text_pos.specs.KindSet.{holds};
+ghost use Rattle.text_pos.specs.KindSet.{is_set, holds, only};
 
-use std::marker::Model;
-
-/// A set of kinds of brackets, which are numbers below 64. Clauses see it as the number whose bit k
-/// says whether kind k is in the set.
+/// A set of kinds of brackets, which are numbers below 64.
 #[derive(Clone, Copy, Debug, PartialEq, Eq)]
 pub struct Kinds {
+    /// Bit k says whether kind k is in the set.
     bits: u64,
 }
 
-impl Model for Kinds {
-    ghost Value = { ℕ };
+/// Whether a bit of a number is 1. No number has a bit behind its last.
+fn has_bit(n: u64, k: u32) -> bool
+    ensures { result ≡ is_set n k }
+{
+    k < 64 && (n >> k) & 1 == 1
+}
 
-    ghost view = { λ s. s.bits };
+fn has_any_bit(n: u64) -> bool
+    ensures { IsTrue result ↔ ((k : ℕ) × IsTrue (is_set n k)) }
+{
+    n != 0
+}
 
-    ghost invariant = { λ s. s.bits < 2 ^ 64 };
-
-    ghost inverse = { λ n. record { bits = n } };
+/// The bits of a number that another doesn't have.
+fn bits_without(n: u64, other: u64) -> u64
+    ensures { (k : ℕ) → k < 64 → is_set result k ≡ (is_set n k && not (is_set other k)) }
+{
+    n & !other
 }
 
 impl Kinds {
@@ -29,7 +37,8 @@ impl Kinds {
 
     pub fn one(k: u32) -> Kinds
         requires { k < 64 }
-        ensures { (j : ℕ) → holds result j ≡ (j == k) }
+        ensures members { (j : ℕ) → holds result j ≡ (j == k) }
+        ensures value { result ≡ only k }
     {
         Kinds { bits: 1 << k }
     }
@@ -48,7 +57,7 @@ impl Kinds {
         ensures { (k : ℕ) → k < 64 → holds result k ≡ (holds self k && not (holds other k)) }
     {
         Kinds {
-            bits: self.bits & !other.bits,
+            bits: bits_without(self.bits, other.bits),
         }
     }
 
@@ -56,12 +65,12 @@ impl Kinds {
     pub fn meets(self, other: Kinds) -> bool
         ensures { IsTrue result ↔ ((k : ℕ) × IsTrue (holds self k && holds other k)) }
     {
-        self.bits & other.bits != 0
+        has_any_bit(self.bits & other.bits)
     }
 
     pub fn has(self, k: u32) -> bool
         ensures { result ≡ holds self k }
     {
-        k < 64 && (self.bits >> k) & 1 == 1
+        has_bit(self.bits, k)
     }
 }

@@ -1,5 +1,5 @@
 use Rattle.text_pos.proofs.kinds.Kinds.one.Goals as goal
-use Rattle.text_pos.proofs.Bits.{holds_one}
+use Rattle.text_pos.proofs.Bits.{is_set_one}
 
-pub returns : goal.returns
-returns c = λ j. holds_one c.args.k j c.requires
+pub returns-clause-members : goal.returns-clause-members
+returns-clause-members c = λ j. is_set_one c.args.k j c.requires
