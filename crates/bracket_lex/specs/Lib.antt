@@ -1,0 +1,2 @@
+pub mod MarkedLine
+pub mod Pairing
