@@ -1,4 +1,6 @@
 pub mod LineLists
+pub mod LineWalk
+pub mod LongestText
 pub mod OpenSteps
 pub mod RowSteps
 pub mod Stack

@@ -1,5 +1,5 @@
 -- What one mark adds to the rows, and then all marks of a line.
-use Rattle.std.proofs.Common.{◌≡◌, ℕ, zero, suc, ◌+◌, ◌<◌, ◌≤◌, ◌==◌, Bool, true, false, List, [], ◌∷◌, ◌++◌, length, map, reverse, take, drop, get_or, nat_le, Some, None, refl, sym, ap, ◌∙◌, arith, append_assoc, length-append, add-one, if◌then◌else◌}
+use Rattle.std.proofs.Common.{◌≡◌, ℕ, ◌+◌, ◌<◌, ◌≤◌, Bool, true, false, List, [], ◌∷◌, ◌++◌, length, map, reverse, take, drop, get_or, nat_le, Some, None, refl, ◌∙◌, arith, append_assoc, add-one, if◌then◌else◌}
 use Rattle.std.proofs.lemmas.List.{length-reverse, map-append, length-take-le}
 use Rattle.std.proofs.lemmas.Bool.Decides.{nat_tests}
 use Rattle.std.proofs.Math.Seq.{drop-cons}

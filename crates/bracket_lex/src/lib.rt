@@ -8,7 +8,7 @@ mod open_marks;
 pub mod paired;
 mod partners;
 
-// pub use brackets::Brackets;
+pub use brackets::Brackets;
 pub use line_marks::LineMarks;
 pub use mark_lines::MarkLines;
 pub use paired::Paired;

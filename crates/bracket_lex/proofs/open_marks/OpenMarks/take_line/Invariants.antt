@@ -6,8 +6,8 @@ use Rattle.bracket_lex.proofs.open_marks.OpenMarks.take_line.Given as goal
 
 abbrev pub invariant-loop-m : goal.invariant-loop-m
 invariant-loop-m l = record {
-    limit : l.self.limit ≡ l.initial.self.limit;
-    rows : l.self.rows ++ placed_from l.self.limit (open_in l.self) (map (placed l.n) (drop l.m-index l.marks)) ≡ l.initial.self.rows ++ placed_from l.initial.self.limit (open_in l.initial.self) (map (placed l.n) l.marks);
-    entries : open_after l.self.limit (open_in l.self) (map (placed l.n) (drop l.m-index l.marks)) ≡ open_after l.initial.self.limit (open_in l.initial.self) (map (placed l.n) l.marks);
-    bound : length l.self.rows ≤ length l.initial.self.rows + l.m-index
-  }
+  limit : l.self.limit ≡ l.initial.self.limit;
+  rows : l.self.rows ++ placed_from l.self.limit (open_in l.self) (map (placed l.n) (drop l.m-index l.marks)) ≡ l.initial.self.rows ++ placed_from l.initial.self.limit (open_in l.initial.self) (map (placed l.n) l.marks);
+  entries : open_after l.self.limit (open_in l.self) (map (placed l.n) (drop l.m-index l.marks)) ≡ open_after l.initial.self.limit (open_in l.initial.self) (map (placed l.n) l.marks);
+  bound : length l.self.rows ≤ length l.initial.self.rows + l.m-index;
+}

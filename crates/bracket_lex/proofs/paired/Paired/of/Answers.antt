@@ -1,4 +1,4 @@
-use Rattle.std.proofs.Common.{◌≡◌, ◌<◌, length, get_or, ◌∙◌, ap, arith}
+use Rattle.std.proofs.Common.{◌<◌, length, ◌∙◌, ap, arith}
 use Rattle.bracket_lex.proofs.TextSteps.{text_rows, text_bound}
 use Rattle.bracket_lex.proofs.paired.Paired.of.Goals as goal
 
@@ -12,5 +12,5 @@ loop-n-preserved c =
     record {
       limit = c.in_ok-take_line.ensures.limit ∙ c.loop-n.invariant.limit;
       rows = text_rows c.args.limit c.loop-n.n c.loop-n.open_marks c.take_line.new.self lines c.marks.result.now _ below marks kept.rows kept.entries ∙ c.loop-n.invariant.rows;
-      bound = let rows = c.in_ok-take_line.ensures.bound in let total = c.loop-n.invariant.bound in omega (arith, count)
+      bound = let rows = c.in_ok-take_line.ensures.bound in let total = c.loop-n.invariant.bound in omega (arith, count);
     }
