@@ -3,7 +3,7 @@ use Rattle.std.proofs.Common.{◌≡◌, ◌≢◌, ℕ, zero, suc, ◌+◌, ◌
 use Rattle.std.proofs.lemmas.Bool.{ne_eqb}
 use Rattle.std.proofs.lemmas.List.{length-append, append-nil, append_assoc}
 use Rattle.text_defs.specs.Text.{lines_of, line_in, onto_first, before_lines}
-use Rattle.line_text.specs.Lines.{joined, behind_lf, IsLine, AreLines, IsKept}
+use Rattle.line_text.specs.Lines.{joined, behind_lf, ended, IsLine, AreLines, IsKept}
 
 -- the characters in front of the first of the lines
 abbrev pub all_onto : List ℕ → List (List ℕ) → List (List ℕ)
@@ -50,3 +50,25 @@ pub length-line_in : (lines : List (List ℕ)) (n : ℕ) → length (line_in lin
 length-line_in [] n = omega arith
 length-line_in (line ∷ lines) zero = omega (arith, length-append line (behind_lf lines))
 length-line_in (line ∷ lines) (suc n) = omega (arith, length-append line (behind_lf lines), length-line_in-behind lines n)
+
+pub AreLines-push : (lines : List (List ℕ)) (line : List ℕ) → AreLines lines → IsLine line → AreLines (lines ++ line ∷ [])
+AreLines-push [] line h i = (i, tt)
+AreLines-push (first ∷ lines) line h i = (h.0, AreLines-push lines line h.1 i)
+
+pub IsLine-append : (xs ys : List ℕ) → IsLine xs → IsLine ys → IsLine (xs ++ ys)
+IsLine-append [] ys h i = i
+IsLine-append (x ∷ xs) ys h i = (h.0, IsLine-append xs ys h.1 i)
+
+-- one line more, and its end
+pub ended-push : (lines : List (List ℕ)) (line : List ℕ) → ended (lines ++ line ∷ []) ≡ (ended lines ++ line) ++ 10 ∷ []
+ended-push [] line = refl
+ended-push (first ∷ lines) line = ap (λ (cs : List ℕ). first ++ 10 ∷ cs) (ended-push lines line) ∙ grind (arith, append_assoc)
+
+behind_lf-push : (lines : List (List ℕ)) (line : List ℕ) → behind_lf (lines ++ line ∷ []) ≡ 10 ∷ (ended lines ++ line)
+behind_lf-push [] line = ap (λ (cs : List ℕ). 10 ∷ cs) (append-nil line)
+behind_lf-push (first ∷ lines) line = rw (behind_lf-push lines line) (ap (λ (cs : List ℕ). 10 ∷ cs) (sym (append_assoc first (10 ∷ ended lines) line)))
+
+-- the last line has no end
+pub joined-push : (lines : List (List ℕ)) (line : List ℕ) → joined (lines ++ line ∷ []) ≡ ended lines ++ line
+joined-push [] line = append-nil line
+joined-push (first ∷ lines) line = rw (behind_lf-push lines line) (sym (append_assoc first (10 ∷ ended lines) line))

@@ -12,6 +12,11 @@ abbrev pub joined : List (List ℕ) → List ℕ
 joined [] = []
 joined (line ∷ lines) = line ++ behind_lf lines
 
+-- the lines, an LF behind each
+abbrev pub ended : List (List ℕ) → List ℕ
+ended [] = []
+ended (line ∷ lines) = line ++ 10 ∷ ended lines
+
 -- a line holds no LF
 abbrev pub IsLine : List ℕ → Type 0
 IsLine [] = Unit {0}

@@ -1,7 +1,8 @@
-ghost use Rattle.std.specs.Prelude.{◌≡◌, ◌≢◌, ◌^◌, ◌<◌, ◌≤◌, All, length};
+ghost use Rattle.std.specs.Prelude.{◌≡◌, ◌≢◌, ◌^◌, ◌<◌, ◌≤◌, All, length, IfOk};
 ghost use Rattle.text_defs.specs.Text.{line_count, line_of};
 ghost use Rattle.text_defs.specs.Place.{holds};
 
+use std::alloc::{AllocError, Global};
 use std::marker::Model;
 use std::rc::Rc;
 use text_pos::Pos;
@@ -21,6 +22,15 @@ impl Model for Line {
 }
 
 impl Line {
+    /// A line with a copy of these characters.
+    pub(crate) fn of(alloc: Global, chars: &[char]) -> Result<Line, AllocError>
+        ensures { IfOk result (λ line. line ≡ chars.now) }
+    {
+        Ok(Line {
+            chars: Vec::from_slice(alloc, chars)?,
+        })
+    }
+
     pub fn chars(&self) -> &[char]
         ensures { result.now ≡ self.now }
     {
@@ -48,6 +58,18 @@ impl Model for Text {
 }
 
 impl Text {
+    ghost use Rattle.line_text.specs.Lines.{joined, IsKept};
+    ghost use Rattle.std.specs.Prelude.{map};
+    ghost use Rattle.std.specs.Rc.{rc_value};
+
+    /// The text of these lines.
+    pub(crate) fn of_lines(lines: Vec<Rc<Line>>, chars: u32) -> Text
+        requires { IsKept (map rc_value lines.items) chars }
+        ensures { result ≡ joined (map rc_value lines.items) }
+    {
+        Text { lines, chars }
+    }
+
     /// The number of lines, which is one more than that of the LFs.
     pub fn lines(&self) -> u32
         ensures count { result ≡ line_count self.now }
