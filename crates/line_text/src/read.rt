@@ -68,3 +68,60 @@ impl Text {
             .map_err(TextRefusal::Memory)
     }
 }
+
+#[cfg(test)]
+mod tests {
+    use super::*;
+    use std::test::Fail;
+
+    /// The lines, each with a bar behind it.
+    fn shown(alloc: Global, text: &Text) -> Result<String, AllocError> {
+        let mut lines = String::new(alloc);
+        for n in 0..text.lines() {
+            for c in text.line(n).chars() {
+                lines.push(*c)?;
+            }
+            lines.push('|')?;
+        }
+        Ok(lines)
+    }
+
+    #[test]
+    fn files_become_lines(rt: HostRuntime) -> Result<(), Fail> {
+        let rows: [(&[u8], &str, u32); 10] = [
+            (b"", "|", 0),
+            (b"a\r\nb\rc\nd", "a|b|c|d|", 7),
+            (b"\r\r\n\n\r", "|||||", 4),
+            (b"a\n", "a||", 2),
+            (b"a\r", "a||", 2),
+            ("\u{feff}\u{feff}a".as_bytes(), "\u{feff}a|", 2),
+            ("\u{feff}".as_bytes(), "|", 0),
+            ("a\u{feff}".as_bytes(), "a\u{feff}|", 2),
+            ("\u{e9}\n\u{20ac}\r\n\u{1f600}".as_bytes(), "\u{e9}|\u{20ac}|\u{1f600}|", 5),
+            (b"\xEF\xBB\xBF\r\nx", "|x|", 2),
+        ];
+        for (file, lines, chars) in rows {
+            let text = Text::from_bytes(rt.alloc(), file)?;
+            assert_eq!(rt; shown(rt.alloc(), &text)?.as_str(), lines);
+            assert_eq!(rt; text.chars(), chars);
+        }
+        Ok(())
+    }
+
+    #[test]
+    fn the_first_bad_byte_is_named(rt: HostRuntime) {
+        let rows: [(&[u8], u64); 5] = [
+            (b"\xFF", 0),
+            (b"ab\xC3", 2),
+            (b"a\xE2\x82(", 1),
+            (b"\xF0\x9F\x98\x80\xED\xA0\x80", 4),
+            (b"\n\xC0\x80", 1),
+        ];
+        for (file, place) in rows {
+            match Text::from_bytes(rt.alloc(), file) {
+                Err(TextRefusal::NotUtf8 { at }) => assert_eq!(rt; at, place),
+                _ => panic!(rt; "a bad byte was read"),
+            }
+        }
+    }
+}
