@@ -1,0 +1,74 @@
+-- The lines of joined lines are those lines again.
+use Rattle.std.proofs.Common.{◌≡◌, ◌≢◌, ℕ, zero, suc, ◌+◌, ◌<◌, ◌≤◌, List, [], ◌∷◌, ◌++◌, length, All, get_or, map, refl, ap, sym, ◌∙◌, arith, add_assoc}
+use Rattle.std.proofs.lemmas.Bool.{ne_eqb}
+use Rattle.std.proofs.lemmas.List.{length-append, append-nil, append_assoc}
+use Rattle.text_defs.specs.Text.{lines_of, line_in, onto_first, before_lines}
+use Rattle.line_text.specs.Lines.{joined, behind_lf, ended, IsLine, AreLines, IsKept}
+
+-- the characters in front of the first of the lines
+abbrev pub all_onto : List ℕ → List (List ℕ) → List (List ℕ)
+all_onto [] lines = lines
+all_onto (c ∷ cs) lines = onto_first c (all_onto cs lines)
+
+pub lines_of-append : (line rest : List ℕ) → IsLine line → lines_of (line ++ rest) ≡ all_onto line (lines_of rest)
+lines_of-append [] rest h = refl
+lines_of-append (c ∷ cs) rest h = rw (ne_eqb c 10 h.0) (ap (onto_first c) (lines_of-append cs rest h.1))
+
+pub all_onto-cons : (line first : List ℕ) (lines : List (List ℕ)) → all_onto line (first ∷ lines) ≡ (line ++ first) ∷ lines
+all_onto-cons [] first lines = refl
+all_onto-cons (c ∷ cs) first lines = ap (onto_first c) (all_onto-cons cs first lines)
+
+pub lines_of-behind : (lines : List (List ℕ)) → AreLines lines → lines_of (behind_lf lines) ≡ [] ∷ lines
+lines_of-behind [] h = refl
+lines_of-behind (line ∷ lines) h = ap (λ (ls : List (List ℕ)). [] ∷ ls) (lines_of-append line (behind_lf lines) h.0 ∙ ap (all_onto line) (lines_of-behind lines h.1) ∙ all_onto-cons line [] lines ∙ ap (λ (l : List ℕ). l ∷ lines) (append-nil line))
+
+pub lines_of-joined : (lines : List (List ℕ)) → 0 < length lines → AreLines lines → lines_of (joined lines) ≡ lines
+lines_of-joined [] some h = absurd (omega arith)
+lines_of-joined (line ∷ lines) some h = lines_of-append line (behind_lf lines) h.0 ∙ ap (all_onto line) (lines_of-behind lines h.1) ∙ all_onto-cons line [] lines ∙ ap (λ (l : List ℕ). l ∷ lines) (append-nil line)
+
+pub line_in-get_or : (lines : List (List ℕ)) (n : ℕ) (d : List ℕ) → n < length lines → get_or lines n d ≡ line_in lines n
+line_in-get_or [] n d h = absurd (omega arith)
+line_in-get_or (line ∷ lines) zero d h = refl
+line_in-get_or (line ∷ lines) (suc n) d h = line_in-get_or lines n d (omega arith)
+
+pub line_in-IsLine : (lines : List (List ℕ)) (n : ℕ) → AreLines lines → IsLine (line_in lines n)
+line_in-IsLine [] n h = tt
+line_in-IsLine (line ∷ lines) zero h = h.0
+line_in-IsLine (line ∷ lines) (suc n) h = line_in-IsLine lines n h.1
+
+pub All-IsLine : (line : List ℕ) → IsLine line → All (λ c. c ≢ 10) line
+All-IsLine [] h k d l = absurd (omega arith)
+All-IsLine (c ∷ cs) h zero d l = h.0
+All-IsLine (c ∷ cs) h (suc k) d l = All-IsLine cs h.1 k d (omega arith)
+
+pub length-line_in-behind : (lines : List (List ℕ)) (n : ℕ) → length (line_in lines n) ≤ length (behind_lf lines)
+length-line_in-behind [] n = omega arith
+length-line_in-behind (line ∷ lines) zero = omega (arith, length-append line (behind_lf lines))
+length-line_in-behind (line ∷ lines) (suc n) = omega (arith, length-append line (behind_lf lines), length-line_in-behind lines n)
+
+pub length-line_in : (lines : List (List ℕ)) (n : ℕ) → length (line_in lines n) ≤ length (joined lines)
+length-line_in [] n = omega arith
+length-line_in (line ∷ lines) zero = omega (arith, length-append line (behind_lf lines))
+length-line_in (line ∷ lines) (suc n) = omega (arith, length-append line (behind_lf lines), length-line_in-behind lines n)
+
+pub AreLines-push : (lines : List (List ℕ)) (line : List ℕ) → AreLines lines → IsLine line → AreLines (lines ++ line ∷ [])
+AreLines-push [] line h i = (i, tt)
+AreLines-push (first ∷ lines) line h i = (h.0, AreLines-push lines line h.1 i)
+
+pub IsLine-append : (xs ys : List ℕ) → IsLine xs → IsLine ys → IsLine (xs ++ ys)
+IsLine-append [] ys h i = i
+IsLine-append (x ∷ xs) ys h i = (h.0, IsLine-append xs ys h.1 i)
+
+-- one line more, and its end
+pub ended-push : (lines : List (List ℕ)) (line : List ℕ) → ended (lines ++ line ∷ []) ≡ (ended lines ++ line) ++ 10 ∷ []
+ended-push [] line = refl
+ended-push (first ∷ lines) line = ap (λ (cs : List ℕ). first ++ 10 ∷ cs) (ended-push lines line) ∙ grind (arith, append_assoc)
+
+behind_lf-push : (lines : List (List ℕ)) (line : List ℕ) → behind_lf (lines ++ line ∷ []) ≡ 10 ∷ (ended lines ++ line)
+behind_lf-push [] line = ap (λ (cs : List ℕ). 10 ∷ cs) (append-nil line)
+behind_lf-push (first ∷ lines) line = rw (behind_lf-push lines line) (ap (λ (cs : List ℕ). 10 ∷ cs) (sym (append_assoc first (10 ∷ ended lines) line)))
+
+-- the last line has no end
+pub joined-push : (lines : List (List ℕ)) (line : List ℕ) → joined (lines ++ line ∷ []) ≡ ended lines ++ line
+joined-push [] line = append-nil line
+joined-push (first ∷ lines) line = rw (behind_lf-push lines line) (sym (append_assoc first (10 ∷ ended lines) line))

@@ -1,0 +1,4 @@
+pub mod CountedSizes
+pub mod FileTexts
+pub mod JoinedLines
+pub mod NormedText

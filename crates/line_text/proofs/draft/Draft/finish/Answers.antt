@@ -1,0 +1,34 @@
+use Rattle.std.proofs.Common.{◌≡◌, ◌<◌, ℕ, List, [], ◌∷◌, ◌++◌, map, length, ap, sym, ◌∙◌, arith}
+use Rattle.std.specs.Rc.{rc_value}
+use Rattle.std.proofs.lemmas.List.{map_push, length-append}
+use Rattle.text_defs.specs.Text.{lines_of}
+use Rattle.line_text.specs.Lines.{joined, AreLines, IsKept}
+use Rattle.line_text.proofs.JoinedLines.{AreLines-push, joined-push, lines_of-joined}
+use Rattle.line_text.proofs.draft.Draft.finish.Goals as goal
+use Rattle.line_text.proofs.draft.Draft.finish.Goals.{In_ok-push}
+
+has_line : (c : In_ok-push) → map rc_value c.push.new.self.items ≡ map rc_value c.self.inside.done.items ++ c.self.inside.current.items ∷ []
+has_line c =
+    let done = c.self.inside.done.items in
+    ap (map rc_value) c.in_ok-push.ensures.items ∙ map_push rc_value done c.in_ok-new.field-0
+    ∙ ap (λ (line : List ℕ). map rc_value done ++ line ∷ []) (c.in_ok-new.ensures.ok ∙ c.in_ok-line.ensures ∙ c.as_slice.ensures.value)
+
+is_text : (c : In_ok-push) → joined (map rc_value c.push.new.self.items) ≡ c.args.self
+is_text c = ap joined (has_line c) ∙ joined-push (map rc_value c.self.inside.done.items) c.self.inside.current.items ∙ c.self.view_is
+
+pub of_lines-requires : goal.of_lines-requires
+of_lines-requires c =
+    let lines = map rc_value c.push.new.self.items in
+    let some_line : 0 < length lines = rw (has_line c) (omega (arith, length-append (map rc_value c.self.inside.done.items) (c.self.inside.current.items ∷ []))) in
+    let no_lf : AreLines lines = rw (has_line c) (AreLines-push _ _ c.self.invariant.0 c.self.invariant.1) in
+    let lines_are = sym (ap lines_of (is_text c)) ∙ lines_of-joined lines some_line no_lf in
+    record {
+      some_line = some_line;
+      no_lf = no_lf;
+      counted = c.requires.counted ∙ sym (ap length (is_text c));
+      few_chars = c.requires.few_chars;
+      few_lines = omega (arith, ap length lines_are, c.requires.few_lines)
+    }
+
+pub returns : goal.returns
+returns c = c.of_lines.ensures ∙ is_text ((goal.at.returns c).In_ok-push)

@@ -1,0 +1,4 @@
+pub mod LineEnds
+pub mod Lines
+pub mod Refusals
+pub mod Sizes

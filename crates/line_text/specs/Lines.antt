@@ -1,0 +1,35 @@
+-- How a list of lines stands for a text: joined by LFs. That a text is kept as lines is this project's own.
+use Rattle.std.specs.Prelude.{◌≡◌, ◌≢◌, ℕ, ◌≤◌, ◌<◌, List, [], ◌∷◌, ◌++◌, length}
+use Rattle.text_defs.specs.Text.{most_chars, most_lines}
+
+-- the lines, an LF before each
+abbrev pub behind_lf : List (List ℕ) → List ℕ
+behind_lf [] = []
+behind_lf (line ∷ lines) = 10 ∷ (line ++ behind_lf lines)
+
+-- the lines, an LF between two
+abbrev pub joined : List (List ℕ) → List ℕ
+joined [] = []
+joined (line ∷ lines) = line ++ behind_lf lines
+
+-- the lines, an LF behind each
+abbrev pub ended : List (List ℕ) → List ℕ
+ended [] = []
+ended (line ∷ lines) = line ++ 10 ∷ ended lines
+
+-- a line holds no LF
+abbrev pub IsLine : List ℕ → Type 0
+IsLine [] = Unit {0}
+IsLine (c ∷ cs) = (c ≢ 10) × IsLine cs
+
+abbrev pub AreLines : List (List ℕ) → Type 0
+AreLines [] = Unit {0}
+AreLines (line ∷ lines) = IsLine line × AreLines lines
+
+-- lines that are a text within the limits, and the number of its characters
+pub record IsKept (lines : List (List ℕ)) (chars : ℕ) : Type 0 where
+  pub some_line : 0 < length lines
+  pub no_lf : AreLines lines
+  pub counted : chars ≡ length (joined lines)
+  pub few_chars : chars ≤ most_chars
+  pub few_lines : length lines ≤ most_lines

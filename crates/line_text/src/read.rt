@@ -1,0 +1,127 @@
+ghost use Rattle.std.specs.Prelude.{◌≡◌, ℕ, ◌<◌, ◌≤◌, true, false, length, IfOk, OnOk, IfErr};
+ghost use Rattle.std.specs.Str.Lossy.{utf8_valid_len};
+ghost use Rattle.text_defs.specs.Text.{text_of, is_text, is_utf8, line_count, most_chars, most_lines};
+
+use crate::before::Before;
+use crate::draft::Draft;
+use crate::size::size_of;
+use crate::text::Text;
+use std::alloc::{AllocError, Global};
+use thiserror::Error;
+
+/// Why a file is no text.
+#[derive(Debug, Drop, Error)]
+pub enum TextRefusal {
+    #[error("NotUtf8")]
+    NotUtf8 { at: u64 },
+    #[error("TooManyChars")]
+    TooManyChars { count: u64 },
+    #[error("TooManyLines")]
+    TooManyLines { count: u64 },
+    #[error("Memory")]
+    Memory(AllocError),
+}
+
+/// The largest number of characters of a text, with one LF between two lines.
+pub const MOST_CHARS: u64 = 4_194_304;
+
+/// The largest number of lines of a text.
+pub const MOST_LINES: u64 = 262_144;
+
+impl Text {
+    ghost use Rattle.line_text.specs.Refusals.{is_memory};
+
+    /// The text of a file. Each of LF, CR LF and a lone CR ends a line, and a U+FEFF at the start falls away.
+    pub fn from_bytes(alloc: Global, bytes: &[u8]) -> Result<Text, TextRefusal>
+        ensures ok { IfOk result (λ text. text ≡ text_of bytes.now) }
+        ensures is_text { OnOk result (is_text bytes.now ≡ true) }
+        ensures not_utf8 { (at : ℕ) → result ≡ Err (TextRefusal.NotUtf8 at)
+            → (is_utf8 bytes.now ≡ false) × (at ≡ utf8_valid_len bytes.now) }
+        ensures too_many_chars { (count : ℕ) → result ≡ Err (TextRefusal.TooManyChars count)
+            → (is_utf8 bytes.now ≡ true) × (count ≡ length (text_of bytes.now)) × (most_chars < count) }
+        ensures too_many_lines { (count : ℕ) → result ≡ Err (TextRefusal.TooManyLines count)
+            → (is_utf8 bytes.now ≡ true) × (length (text_of bytes.now) ≤ most_chars)
+            × (count ≡ line_count (text_of bytes.now)) × (most_lines < count) }
+        ensures refused { IfErr result (λ fault. is_memory fault ≡ false → is_text bytes.now ≡ false) }
+    {
+        let text = match std::str::from_utf8(bytes) {
+            Ok(text) => text,
+            Err(fault) => {
+                return Err(TextRefusal::NotUtf8 {
+                    at: fault.valid_up_to() as u64,
+                });
+            }
+        };
+        let size = size_of(text, Before::FileStart);
+        if size.chars > MOST_CHARS {
+            return Err(TextRefusal::TooManyChars { count: size.chars });
+        }
+        if size.lines > MOST_LINES {
+            return Err(TextRefusal::TooManyLines { count: size.lines });
+        }
+        let mut draft = Draft::new(alloc);
+        draft
+            .put_text(text, Before::FileStart)
+            .map_err(TextRefusal::Memory)?;
+        draft
+            .finish(size.chars as u32)
+            .map_err(TextRefusal::Memory)
+    }
+}
+
+#[cfg(test)]
+mod tests {
+    use super::*;
+    use std::test::Fail;
+
+    /// The lines, each with a bar behind it.
+    fn shown(alloc: Global, text: &Text) -> Result<String, AllocError> {
+        let mut lines = String::new(alloc);
+        for n in 0..text.lines() {
+            for c in text.line(n).chars() {
+                lines.push(*c)?;
+            }
+            lines.push('|')?;
+        }
+        Ok(lines)
+    }
+
+    #[test]
+    fn files_become_lines(rt: HostRuntime) -> Result<(), Fail> {
+        let rows: [(&[u8], &str, u32); 10] = [
+            (b"", "|", 0),
+            (b"a\r\nb\rc\nd", "a|b|c|d|", 7),
+            (b"\r\r\n\n\r", "|||||", 4),
+            (b"a\n", "a||", 2),
+            (b"a\r", "a||", 2),
+            ("\u{feff}\u{feff}a".as_bytes(), "\u{feff}a|", 2),
+            ("\u{feff}".as_bytes(), "|", 0),
+            ("a\u{feff}".as_bytes(), "a\u{feff}|", 2),
+            ("\u{e9}\n\u{20ac}\r\n\u{1f600}".as_bytes(), "\u{e9}|\u{20ac}|\u{1f600}|", 5),
+            (b"\xEF\xBB\xBF\r\nx", "|x|", 2),
+        ];
+        for (file, lines, chars) in rows {
+            let text = Text::from_bytes(rt.alloc(), file)?;
+            assert_eq!(rt; shown(rt.alloc(), &text)?.as_str(), lines);
+            assert_eq!(rt; text.chars(), chars);
+        }
+        Ok(())
+    }
+
+    #[test]
+    fn the_first_bad_byte_is_named(rt: HostRuntime) {
+        let rows: [(&[u8], u64); 5] = [
+            (b"\xFF", 0),
+            (b"ab\xC3", 2),
+            (b"a\xE2\x82(", 1),
+            (b"\xF0\x9F\x98\x80\xED\xA0\x80", 4),
+            (b"\n\xC0\x80", 1),
+        ];
+        for (file, place) in rows {
+            match Text::from_bytes(rt.alloc(), file) {
+                Err(TextRefusal::NotUtf8 { at }) => assert_eq!(rt; at, place),
+                _ => panic!(rt; "a bad byte was read"),
+            }
+        }
+    }
+}

@@ -1,0 +1,106 @@
+ghost use Rattle.std.specs.Prelude.{◌≡◌, ◌≢◌, ◌^◌, ◌<◌, ◌≤◌, All, length, IfOk};
+ghost use Rattle.text_defs.specs.Text.{line_count, line_of};
+ghost use Rattle.text_defs.specs.Place.{holds};
+
+use std::alloc::{AllocError, Global};
+use std::marker::Model;
+use std::rc::Rc;
+use text_pos::Pos;
+
+/// The characters of one line, without its end.
+#[derive(Debug, Drop)]
+pub struct Line {
+    chars: Vec<char>,
+}
+
+impl Model for Line {
+    ghost use Rattle.std.specs.Prelude.{List, ℕ};
+
+    ghost Value = { List ℕ };
+
+    ghost view = { λ line. line.chars.items };
+}
+
+impl Line {
+    /// A line with a copy of these characters.
+    pub(crate) fn of(alloc: Global, chars: &[char]) -> Result<Line, AllocError>
+        ensures { IfOk result (λ line. line ≡ chars.now) }
+    {
+        Ok(Line {
+            chars: Vec::from_slice(alloc, chars)?,
+        })
+    }
+
+    pub fn chars(&self) -> &[char]
+        ensures { result.now ≡ self.now }
+    {
+        self.chars.as_slice()
+    }
+}
+
+/// A text. Clauses see its characters as one list, with one LF between two lines.
+#[derive(Debug, Drop)]
+pub struct Text {
+    lines: Vec<Rc<Line>>,
+    chars: u32,
+}
+
+impl Model for Text {
+    ghost use Rattle.std.specs.Prelude.{List, ℕ, map};
+    ghost use Rattle.std.specs.Rc.{rc_value};
+    ghost use Rattle.line_text.specs.Lines.{joined, IsKept};
+
+    ghost Value = { List ℕ };
+
+    ghost view = { λ text. joined (map rc_value text.lines.items) };
+
+    ghost invariant = { λ text. IsKept (map rc_value text.lines.items) text.chars };
+}
+
+impl Text {
+    ghost use Rattle.line_text.specs.Lines.{joined, IsKept};
+    ghost use Rattle.std.specs.Prelude.{map};
+    ghost use Rattle.std.specs.Rc.{rc_value};
+
+    /// The text of these lines.
+    pub(crate) fn of_lines(lines: Vec<Rc<Line>>, chars: u32) -> Text
+        requires { IsKept (map rc_value lines.items) chars }
+        ensures { result ≡ joined (map rc_value lines.items) }
+    {
+        Text { lines, chars }
+    }
+
+    /// The number of lines, which is one more than that of the LFs.
+    pub fn lines(&self) -> u32
+        ensures count { result ≡ line_count self.now }
+        ensures some { 0 < result }
+        ensures few { result ≤ 2 ^ 18 }
+    {
+        self.lines.len() as u32
+    }
+
+    /// The number of characters of the flat text.
+    pub fn chars(&self) -> u32
+        ensures count { result ≡ length self.now }
+        ensures few { result ≤ 2 ^ 22 }
+    {
+        self.chars
+    }
+
+    /// Line `n`, from 0.
+    pub fn line(&self, n: u32) -> &Line
+        requires { n < line_count self.now }
+        ensures line { result.now ≡ line_of self.now n }
+        ensures no_lf { All (λ c. c ≢ 10) result.now }
+        ensures few { length result.now ≤ 2 ^ 22 }
+    {
+        &self.lines[n as usize]
+    }
+
+    /// Whether a place is in the text: its line is there, and is at least so long.
+    pub fn holds(&self, at: Pos) -> bool
+        ensures { result ≡ holds self.now at }
+    {
+        at.line < self.lines() && at.col as usize <= self.line(at.line).chars().len()
+    }
+}

@@ -1,0 +1,2 @@
+mod DataLemmas
+mod ReplyLemmas

@@ -1,0 +1,9 @@
+//! Script lines read as commands, and replies written as lines.
+#![tactic(auto)]
+
+pub mod command;
+pub mod reply;
+
+pub use answer_defs::{Answer, BracketRow, MarkAt, Question, Refusal, Rows};
+pub use command::{Command, CommandRefusal};
+pub use reply::Reply;
