@@ -1,1 +1,2 @@
+pub mod FileEnds
 pub mod Told

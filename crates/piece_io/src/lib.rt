@@ -5,7 +5,9 @@
 pub mod files;
 pub mod sink;
 pub mod source;
+pub mod whole;
 
 pub use files::Files;
 pub use sink::Sink;
 pub use source::{Failed, Source};
+pub use whole::{FileEnd, read_file, write_whole};
