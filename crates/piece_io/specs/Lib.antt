@@ -1,2 +1,5 @@
+pub mod CutLaws
+pub mod Cuts
 pub mod FileEnds
+pub mod Pending
 pub mod Told

@@ -3,11 +3,13 @@
 #![tactic(auto)]
 
 pub mod files;
+pub mod line_cutter;
 pub mod sink;
 pub mod source;
 pub mod whole;
 
 pub use files::Files;
+pub use line_cutter::{Cut, LineCutter};
 pub use sink::Sink;
 pub use source::{Failed, Source};
 pub use whole::{FileEnd, read_file, write_whole};
