@@ -2,3 +2,5 @@ pub mod CountedSizes
 pub mod FileTexts
 pub mod JoinedLines
 pub mod NormedText
+pub mod Places
+pub mod ValidBatches
