@@ -3,7 +3,7 @@ use Rattle.std.proofs.Common.{◌≡◌, ◌≢◌, ℕ, zero, suc, ◌+◌, ◌
 use Rattle.std.specs.Prelude.{sum_by}
 use Rattle.std.proofs.lemmas.Bool.{ltb-true, ltb-false, leb-true, and_parts, or_parts, and_cases, eqb-false, not-true, le-ltb, cases_lt}
 use Rattle.std.proofs.lemmas.Bool.Decides.{nat_tests}
-use Rattle.std.proofs.lemmas.List.{length-append, length-drop, append-nil, take-append-le, drop-append-le}
+use Rattle.std.proofs.lemmas.List.{length-append, length-drop, append-nil, take_all, take-append-le, drop-append-le}
 use Rattle.std.proofs.lemmas.List.Sums.{sum_by-cons}
 use Rattle.std.proofs.Math.Seq.{take-append-add, drop-append-add}
 use Rattle.text_pos.specs.declared.length.Pos.{Pos}
@@ -161,3 +161,30 @@ lines_of-drop_place lines n col h i j =
     let rest = drop (suc n) lines in
     rw (drop_place lines n col i j, lines_of-append front (behind_lf rest) (IsLine-drop col (line_in lines n) (line_in-IsLine lines n h)), lines_of-behind rest (AreLines-drop (suc n) lines h))
       (all_onto-cons front [] rest ∙ ap (λ (l : List ℕ). l ∷ rest) (append-nil front))
+
+-- the same at the next line of a loop
+pub start_next : (lines : List (List ℕ)) (n : ℕ) → n < length lines → start lines (n + 1) ≡ start lines n + length (line_in lines n) + 1
+start_next lines n h = rw add-one (start_step lines n h)
+
+pub piece_next : (lines : List (List ℕ)) (n col : ℕ) (to : Pos) → IsPlace lines to → n < to.line → col ≤ length (line_in lines n) → piece lines n col (start lines to.line + to.col) ≡ drop col (line_in lines n) ++ 10 ∷ piece lines (n + 1) 0 (start lines to.line + to.col)
+piece_next lines n col to p l i =
+    rw add-one (piece_line lines n col (start lines to.line + to.col) (omega (arith, p.line)) i (omega (arith, start_mono lines (suc n) to.line (omega arith))))
+
+-- a line was copied from a column on, and its end
+pub copied_line : (lines : List (List ℕ)) (n col len : ℕ) (to : Pos) (line before part after whole : List ℕ) → IsPlace lines to → n < to.line → col ≤ length (line_in lines n) → line ≡ line_in lines n → len ≡ length line
+    → part ≡ before ++ take (len - col) (drop col line) → after ≡ part ++ 10 ∷ []
+    → before ++ piece lines n col (start lines to.line + to.col) ≡ whole → after ++ piece lines (n + 1) 0 (start lines to.line + to.col) ≡ whole
+copied_line lines n col len to line before part after whole p l i is_line is_len is_part is_after h =
+    let rest = drop col line in
+    let next = piece lines (n + 1) 0 (start lines to.line + to.col) in
+    let all : take (len - col) rest ≡ rest = take_all (len - col) rest (omega (arith, length-drop col line)) in
+    let left : after ≡ (before ++ rest) ++ 10 ∷ [] = is_after ∙ ap (λ (cs : List ℕ). cs ++ 10 ∷ []) (is_part ∙ ap (λ (cs : List ℕ). before ++ cs) all) in
+    let right : piece lines n col (start lines to.line + to.col) ≡ rest ++ 10 ∷ next = rw is_line (piece_next lines n col to p l i) in
+    ap (λ (cs : List ℕ). cs ++ next) left ∙ append_assoc (before ++ rest) (10 ∷ []) next ∙ append_assoc before rest (10 ∷ next) ∙ ap (λ (cs : List ℕ). before ++ cs) (sym right) ∙ h
+
+-- the last part was copied
+pub copied_part : (lines : List (List ℕ)) (n col : ℕ) (to : Pos) (line before after whole : List ℕ) → IsPlace lines to → n ≡ to.line → col ≤ to.col → line ≡ line_in lines to.line
+    → after ≡ before ++ take (to.col - col) (drop col line)
+    → before ++ piece lines n col (start lines to.line + to.col) ≡ whole → after ≡ whole
+copied_part lines n col to line before after whole p e l is_line is_after h =
+    is_after ∙ ap (λ (cs : List ℕ). before ++ cs) (rw (is_line) (sym (piece_part lines to.line col to.col p.line l p.col)) ∙ ap (λ (m : ℕ). piece lines m col (start lines to.line + to.col)) (sym e)) ∙ h

@@ -1,13 +1,16 @@
 -- A batch whose edits are in range and in order, and the size of the text that it makes.
-use Rattle.std.proofs.Common.{◌≡◌, ℕ, zero, suc, ◌+◌, ◌-◌, ◌<◌, ◌≤◌, ◌⊎◌, inl, inr, Option, Some, None, List, [], ◌∷◌, ◌++◌, length, get_or, take, drop, Bool, true, false, cond, refl, ap, sym, ◌∙◌, arith, append_assoc}
+use Rattle.std.proofs.Common.{◌≡◌, ℕ, zero, suc, ◌+◌, ◌-◌, ◌<◌, ◌≤◌, ◌⊎◌, inl, inr, Option, Some, None, List, [], ◌∷◌, ◌++◌, length, get_or, take, drop, Bool, true, false, cond, refl, ap, subst, sym, ◌∙◌, arith, append_assoc}
 use Rattle.std.specs.Prelude.{sum_by}
 use Rattle.std.proofs.lemmas.Bool.{and_parts, not-true, cases_lt, ne_eqb}
 use Rattle.std.proofs.lemmas.List.{length-append, length-drop, length-take-le, append-nil}
-use Rattle.std.proofs.lemmas.List.Sums.{sum_by-cons}
+use Rattle.std.proofs.lemmas.List.Sums.{sum_by-cons, sum_by_more, sum_by-take-le}
 use Rattle.text_pos.specs.declared.length.Pos.{Pos}
+use Rattle.text_pos.specs.declared.length.Span.{Span}
 use Rattle.text_defs.specs.Text.{norm, lines_of, line_of, line_in, line_count}
-use Rattle.text_defs.specs.Place.{offset_of}
-use Rattle.text_defs.specs.Batch.{TextEdit, BatchRefusal, edit_fault, first_fault, is_in_range, is_in_order, replaced, edited}
+use Rattle.text_defs.specs.Place.{offset_of, holds, is_before}
+use Rattle.text_defs.specs.Batch.{TextEdit, BatchRefusal, edit_fault, first_fault, is_in_range, is_in_order, replaced, edited, counted}
+use Rattle.line_text.specs.declared.size.Size.{Size}
+use Rattle.line_text.specs.Sizes.{IsSizeOf}
 use Rattle.line_text.specs.Lines.{joined, behind_lf, ended, IsLine, AreLines}
 use Rattle.line_text.proofs.JoinedLines.{lines_of-append, all_onto, all_onto-cons, lines_of-behind, line_in-IsLine, IsLine-take, IsLine-drop}
 use Rattle.line_text.proofs.CountedSizes.{line_count-append, line_count-cons, line_count-pos}
@@ -156,3 +159,59 @@ is_in_range-get_or text before n [] i d h l = absurd (omega arith)
 is_in_range-get_or text before n (e ∷ es) zero d h l = (first_fault-None (is_in_range text e) (is_in_order before e) n (edit_fault text (Some e.span.to) (suc n) es) h).0
 is_in_range-get_or text before n (e ∷ es) (suc i) d h l =
     is_in_range-get_or text (Some e.span.to) (suc n) es i d ((first_fault-None (is_in_range text e) (is_in_order before e) n (edit_fault text (Some e.span.to) (suc n) es) h).2) (omega arith)
+
+-- what a loop over a valid batch knows at its edit number i
+pub record AtEdit (text : List ℕ) (es : List TextEdit) (i : ℕ) (span : Span) (cs : List ℕ) : Type 0 where
+  pub from : holds text span.from ≡ true
+  pub to : holds text span.to ≡ true
+  pub forward : is_before span.to span.from ≡ false
+  pub lines_rise : span.from.line ≤ span.to.line
+  pub offsets_rise : offset_of text span.from ≤ offset_of text span.to
+  pub chars_removed : sum_by (removed (lines_of text)) (take (i + 1) es) ≡ sum_by (removed (lines_of text)) (take i es) + (offset_of text span.to - offset_of text span.from)
+  pub chars_left : sum_by (removed (lines_of text)) (take (i + 1) es) ≤ length text
+  pub lines_removed : sum_by removed_lines (take (i + 1) es) ≡ sum_by removed_lines (take i es) + (span.to.line - span.from.line)
+  pub lines_left : sum_by removed_lines (take (i + 1) es) < line_count text
+  pub chars_added : sum_by added (take (i + 1) es) ≡ sum_by added (take i es) + length (norm cs)
+  pub lines_added : sum_by added_lines (take (i + 1) es) ≡ sum_by added_lines (take i es) + (line_count (norm cs) - 1)
+
+at_get_or : (text : List ℕ) (es : List TextEdit) (i : ℕ) (d : TextEdit) → edit_fault text None 0 es ≡ None → i < length es → AtEdit text es i (get_or es i d).span (get_or es i d).text
+at_get_or text es i d h l =
+    let e = get_or es i d in
+    let lines = lines_of text in
+    let valid = AreValid-origin text 0 es h in
+    let start_place = IsPlace-origin text in
+    let range = and_parts _ _ (is_in_range-get_or text None 0 es i d h l) in
+    let places = and_parts _ _ range.0 in
+    let from = IsPlace-holds text e.span.from places.0 in
+    let to = IsPlace-holds text e.span.to places.1 in
+    let not_before = not-true _ range.1 in
+    let forward = IsFrom-is_before e.span.from e.span.to not_before in
+    record {
+      from = places.0;
+      to = places.1;
+      forward = not_before;
+      lines_rise = IsFrom-lines e.span.from e.span.to forward;
+      offsets_rise = offset_le lines e.span.from e.span.to from to forward;
+      chars_removed = sum_by_more (removed lines) es i d l;
+      chars_left = omega (arith, sum_by-take-le (removed lines) es (i + 1), removed_le text origin es start_place valid);
+      lines_removed = sum_by_more removed_lines es i d l;
+      lines_left = omega (arith, sum_by-take-le removed_lines es (i + 1), removed_lines_le text origin es start_place valid);
+      chars_added = sum_by_more added es i d l;
+      lines_added = sum_by_more added_lines es i d l
+    }
+
+pub at_edit : (text : List ℕ) (es : List TextEdit) (i : ℕ) (e : TextEdit) (span : Span) → edit_fault text None 0 es ≡ None → i < length es → e ≡ get_or es i e → span ≡ e.span → AtEdit text es i span e.text
+at_edit text es i e span h l is same =
+    rw same (subst (λ x. AtEdit text es i x.span x.text) (sym is) (at_get_or text es i e h l))
+
+-- the size of the text after a valid batch
+pub IsSizeOf-edited : (text : List ℕ) (es : List TextEdit) (size : Size) (kept_chars kept_lines added_chars added_line_ends : ℕ) → edit_fault text None 0 es ≡ None
+    → kept_chars + sum_by (removed (lines_of text)) es ≡ length text → kept_lines + sum_by removed_lines es ≡ line_count text
+    → added_chars ≡ counted (sum_by added es) → added_line_ends ≡ counted (sum_by added_lines es)
+    → size.chars ≡ counted (kept_chars + added_chars) → size.lines ≡ counted (kept_lines + added_line_ends) → IsSizeOf (edited text es) size
+IsSizeOf-edited text es size kept_chars kept_lines added_chars added_line_ends h k l m n c d =
+    let valid = AreValid-origin text 0 es h in
+    record {
+      chars = omega (arith, length-replaced text origin es (IsPlace-origin text) valid);
+      lines = omega (arith, line_count-replaced text origin es (IsPlace-origin text) valid)
+    }

@@ -53,4 +53,59 @@ impl Text {
         }
         Ok(())
     }
+
+    /// How many characters lie between two places.
+    fn chars_between(&self, from: Pos, to: Pos) -> u64
+        requires from { holds self.now from ≡ true }
+        requires to { holds self.now to ≡ true }
+        requires forward { is_before to from ≡ false }
+        ensures { offset_of self.now from + result ≡ offset_of self.now to }
+    {
+        let mut chars = u64::from(to.col);
+        for n in from.line..to.line {
+            chars += self.line(n).chars().len() as u64 + 1;
+        }
+        chars - u64::from(from.col)
+    }
+
+    /// The size of the text after a batch.
+    fn size_after(&self, edits: &[Edit]) -> Size
+        requires { edit_fault self.now None 0 edits.now ≡ None }
+        ensures { IsSizeOf (edited self.now edits.now) result }
+    {
+        let mut kept_chars = u64::from(self.chars());
+        let mut kept_lines = u64::from(self.lines());
+        let mut added_chars = 0u64;
+        let mut added_lines = 0u64;
+        for edit in edits {
+            let span = edit.span();
+            kept_chars -= self.chars_between(span.from, span.to);
+            kept_lines -= u64::from(span.to.line - span.from.line);
+            let added = size_of(edit.text(), Before::Other);
+            added_chars = added_chars.saturating_add(added.chars);
+            added_lines = added_lines.saturating_add(added.lines - 1);
+        }
+        Size {
+            chars: kept_chars.saturating_add(added_chars),
+            lines: kept_lines.saturating_add(added_lines),
+        }
+    }
+
+    /// Adds what lies between two places to a draft.
+    fn copy_between(&self, draft: &mut Draft, from: Pos, to: Pos) -> Result<(), AllocError>
+        requires from { holds self.now from ≡ true }
+        requires to { holds self.now to ≡ true }
+        requires forward { is_before to from ≡ false }
+        ensures { OnOk result (draft.new ≡ draft.old
+            ++ take (offset_of self.now to - offset_of self.now from) (drop (offset_of self.now from) self.now)) }
+    {
+        let mut col = from.col as usize;
+        for n in from.line..to.line {
+            let line = self.shared_line(n);
+            draft.put_part(line, col, line.chars().len())?;
+            draft.put('\n')?;
+            col = 0;
+        }
+        draft.put_part(self.shared_line(to.line), col, to.col as usize)
+    }
 }
