@@ -1,3 +1,4 @@
+pub mod BatchRefusals
 pub mod LineEnds
 pub mod Lines
 pub mod Refusals
