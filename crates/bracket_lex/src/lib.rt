@@ -7,6 +7,7 @@ pub mod mark_lines;
 mod open_marks;
 pub mod paired;
 mod partners;
+mod text_marks;
 
 pub use brackets::Brackets;
 pub use line_marks::LineMarks;
