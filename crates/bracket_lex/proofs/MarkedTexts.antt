@@ -65,7 +65,7 @@ marked_few texts taken column [] = omega arith
 marked_few texts (suc taken) column (c ∷ cs) = let rest = marked_few texts taken (column + 1) cs in omega arith
 marked_few texts zero column (c ∷ cs) =
     one_more column (bracket_at texts (c ∷ cs)) (marks_from texts (further (bracket_at texts (c ∷ cs))) (column + 1) cs) (length cs)
-      (marked_few texts (further (bracket_at texts (c ∷ cs))) (column + 1) cs)
+    (marked_few texts (further (bracket_at texts (c ∷ cs))) (column + 1) cs)
 
 unless_long : (long : Bool) (marks : List LineMark) (n : ℕ) → length marks ≤ n → length (if long then [] else marks) ≤ n
 unless_long true marks n h = omega arith

@@ -14,3 +14,6 @@ pub use line_marks::LineMarks;
 pub use mark_lines::MarkLines;
 pub use paired::Paired;
 pub use pairing_defs::{BracketText, LineMark, Mark, Role, Row};
+
+#[cfg(test)]
+mod tests;

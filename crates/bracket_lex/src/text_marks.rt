@@ -11,7 +11,12 @@ use std::alloc::{AllocError, Global};
 
 impl MarkLines {
     /// The marks of all lines of a text. A line of `long` or more characters has none.
-    pub fn of_text(alloc: Global, brackets: &Brackets, text: &Text, long: u32) -> Result<MarkLines, AllocError>
+    pub fn of_text(
+        alloc: Global,
+        brackets: &Brackets,
+        text: &Text,
+        long: u32,
+    ) -> Result<MarkLines, AllocError>
         ensures marks { IfOk result (λ lines. marks_in lines ≡ text_marks brackets.now long (lines_of text.now)) }
         ensures few { IfOk result (λ lines. length (marks_in lines) < 2 ^ 32) }
         ensures some { IfOk result (λ lines. 0 < length lines) }

@@ -12,7 +12,7 @@ loop-n-preserved c =
     record {
       lines = lines_more c.args.brackets.now c.args.long c.loop-n.n (lines_of c.args.text.now) c.loop-n.lines c.push.new.self c.in_ok-marks.field-0
           below c.loop-n.invariant.lines marks len c.in_ok-push.ensures.ok;
-      count = ap length c.in_ok-push.ensures.ok ∙ length-append c.loop-n.lines (c.in_ok-marks.field-0 ∷ []) ∙ ap (λ n. n + 1) c.loop-n.invariant.count
+      count = ap length c.in_ok-push.ensures.ok ∙ length-append c.loop-n.lines (c.in_ok-marks.field-0 ∷ []) ∙ ap (λ n. n + 1) c.loop-n.invariant.count;
     }
 
 pub returns-clause-marks : goal.returns-clause-marks

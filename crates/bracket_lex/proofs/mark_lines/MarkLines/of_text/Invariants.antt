@@ -5,6 +5,6 @@ use Rattle.bracket_lex.proofs.mark_lines.MarkLines.of_text.Given as goal
 
 abbrev pub invariant-loop-n : goal.invariant-loop-n
 invariant-loop-n l = record {
-    lines : l.lines ≡ map (marked_line l.brackets l.long) (take l.n (lines_of l.text));
-    count : length l.lines ≡ l.n
-  }
+  lines : l.lines ≡ map (marked_line l.brackets l.long) (take l.n (lines_of l.text));
+  count : length l.lines ≡ l.n;
+}
