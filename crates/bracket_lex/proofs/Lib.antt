@@ -1,5 +1,6 @@
 pub mod LineLists
 pub mod LineWalk
+pub mod MarkedTexts
 pub mod LongestText
 pub mod OpenSteps
 pub mod RowSteps

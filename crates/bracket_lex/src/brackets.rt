@@ -6,6 +6,7 @@ ghost use Rattle.pairing_defs.specs.Marks.{usual_texts, stands_at, bracket_at, m
 ghost use Rattle.bracket_lex.specs.Longest.{or_longer};
 
 use crate::line_marks::LineMarks;
+use line_text::Line;
 use pairing_defs::{BracketText, LineMark, Role};
 use std::alloc::{AllocError, Global};
 use std::marker::Model;
@@ -119,7 +120,15 @@ impl Brackets {
     }
 
     /// The marks of a line, which has none where it has `long` or more characters.
-    pub fn marks_in(&self, alloc: Global, line: &[char], long: u32) -> Result<LineMarks, AllocError>
+    pub fn marks(&self, alloc: Global, line: &Line, long: u32) -> Result<LineMarks, AllocError>
+        requires { length line.now < 2 ^ 32 }
+        ensures marks { IfOk result (λ found. found.marks ≡ marks_of self.now long line.now) }
+        ensures length { IfOk result (λ found. found.length ≡ length line.now) }
+    {
+        self.marks_in(alloc, line.chars(), long)
+    }
+
+    fn marks_in(&self, alloc: Global, line: &[char], long: u32) -> Result<LineMarks, AllocError>
         requires { length line.now < 2 ^ 32 }
         ensures marks { IfOk result (λ found. found.marks ≡ marks_of self.now long line.now) }
         ensures length { IfOk result (λ found. found.length ≡ length line.now) }

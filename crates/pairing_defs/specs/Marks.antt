@@ -1,10 +1,8 @@
 -- The marks of a line. That the longest text wins and that a very long line has none is this project's own;
 -- the built-in pairs are those of most language configurations of VS Code.
-use Rattle.std.specs.Prelude.{ℕ, zero, suc, ◌+◌, ◌-◌, ◌==◌, List, [], ◌∷◌, ◌++◌, length, map, filter, Bool, true, false, nat_eq, nat_lt, nat_le, if◌then◌else◌, Option, Some, None}
+use Rattle.std.specs.Prelude.{ℕ, zero, suc, ◌+◌, ◌-◌, ◌==◌, List, [], ◌∷◌, ◌++◌, length, map, filter, Bool, false, nat_eq, nat_lt, nat_le, if◌then◌else◌, Option, Some, None}
 use Rattle.std.specs.List.{starts_with}
-use Rattle.text_pos.specs.declared.length.Pos.{Pos}
 use Rattle.text_pos.specs.KindSet.{only}
-use Rattle.pairing_defs.specs.declared.Role.{Role}
 use Rattle.pairing_defs.specs.declared.Role.TheVariants.{Opener, Closer}
 use Rattle.pairing_defs.specs.declared.BracketText.{BracketText}
 use Rattle.pairing_defs.specs.declared.LineMark.{LineMark}

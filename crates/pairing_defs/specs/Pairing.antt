@@ -1,6 +1,6 @@
 -- Pairing: one pass over the marks of a text with a list of open entries. A closer takes the last open entry
 -- that it closes, as in VS Code's bracketPairsTree; the limit on nesting and the colours are this project's own.
-use Rattle.std.specs.Prelude.{ℕ, zero, suc, ◌+◌, ◌%◌, ◌==◌, List, [], ◌∷◌, ◌++◌, length, count_by, Bool, true, false, nat_le, if◌then◌else◌, Option, Some, None, is_some}
+use Rattle.std.specs.Prelude.{ℕ, ◌+◌, ◌%◌, ◌==◌, List, [], ◌∷◌, ◌++◌, length, count_by, nat_le, if◌then◌else◌, Option, Some, None}
 use Rattle.text_pos.specs.declared.length.Pos.{Pos}
 use Rattle.text_pos.specs.declared.kinds.Kinds.{Kinds}
 use Rattle.text_pos.specs.KindSet.{holds}
