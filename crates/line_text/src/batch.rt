@@ -1,4 +1,5 @@
 ghost use Rattle.std.specs.Prelude.{◌≡◌, ◌≢◌, ◌+◌, ◌-◌, ◌≤◌, ℕ, Option, Some, None, ◌++◌, length, take, drop, true, false, IfOk, IfErr, OnOk, OnErr, ◌&&◌, not};
+ghost use Rattle.text_pos.specs.declared.length.Pos.{Pos};
 ghost use Rattle.text_defs.specs.Batch.{edited, edit_fault, batch_refusal, is_in_range, is_in_order};
 ghost use Rattle.text_defs.specs.Place.{offset_of, is_before, holds};
 ghost use Rattle.text_defs.specs.Text.{line_count};
@@ -107,5 +108,35 @@ impl Text {
             col = 0;
         }
         draft.put_part(self.shared_line(to.line), col, to.col as usize)
+    }
+
+    /// The place behind the last character.
+    fn end(&self) -> Pos
+        ensures there { holds self.now result ≡ true }
+        ensures last { (at : Pos) → holds self.now at ≡ true → is_before result at ≡ false }
+        ensures whole { offset_of self.now result ≡ length self.now }
+    {
+        let line = self.lines() - 1;
+        Pos {
+            line,
+            col: self.line(line).chars().len() as u32,
+        }
+    }
+
+    /// The text after a batch.
+    fn draft_after(&self, alloc: Global, edits: &[Edit]) -> Result<Draft, AllocError>
+        requires { edit_fault self.now None 0 edits.now ≡ None }
+        ensures { IfOk result (λ draft. draft ≡ edited self.now edits.now) }
+    {
+        let mut draft = Draft::new(alloc);
+        let mut at = Pos { line: 0, col: 0 };
+        for edit in edits {
+            let span = edit.span();
+            self.copy_between(&mut draft, at, span.from)?;
+            draft.put_text(edit.text(), Before::Other)?;
+            at = span.to;
+        }
+        self.copy_between(&mut draft, at, self.end())?;
+        Ok(draft)
     }
 }
