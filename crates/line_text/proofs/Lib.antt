@@ -1,3 +1,4 @@
+pub mod CarriedRuns
 pub mod CountedSizes
 pub mod FileTexts
 pub mod JoinedLines

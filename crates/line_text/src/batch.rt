@@ -155,6 +155,7 @@ impl Text {
         requires few { line_count (edited self.now edits.now) ≤ most_lines }
         ensures { IfOk result (λ carry. carry ≡ carried self.now edits.now) }
     {
+        let lines = self.lines();
         let mut carry = Carry::new(alloc);
         // The first line that no edit so far has to do with, and its number in the new text.
         let mut old = 0;
@@ -166,7 +167,7 @@ impl Text {
             new = new + span.from.line - old + added;
             old = span.to.line + 1;
         }
-        carry.add(old, self.lines(), new)?;
+        carry.add(old, lines, new)?;
         Ok(carry)
     }
 
