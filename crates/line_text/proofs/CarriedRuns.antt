@@ -281,3 +281,8 @@ gap_get_or text total es i d old new g l =
 pub gap_step : (text : List ℕ) (total : ℕ) (es : List TextEdit) (i : ℕ) (e : TextEdit) (span : Span) (old new : ℕ) → IsAtGap text total (drop i es) old new → i < length es → e ≡ get_or es i e → span ≡ e.span → GapStep text total es i span e.text old new
 gap_step text total es i e span old new g l is same =
     rw same (subst (λ x. GapStep text total es i x.span x.text old new) (sym is) (gap_get_or text total es i e old new g l))
+
+-- a run more is listed
+pub listed_step : (before after run rest left whole : List Run) → after ≡ before ++ run → left ≡ run ++ rest → before ++ left ≡ whole → after ++ rest ≡ whole
+listed_step before after run rest left whole a l h =
+    ap (λ (rs : List Run). rs ++ rest) a ∙ append_assoc before run rest ∙ ap (λ (rs : List Run). before ++ rs) (sym l) ∙ h

@@ -81,7 +81,7 @@ piece_part lines n col to h i j =
     let e : (start lines n + to) - (start lines n + col) ≡ to - col = omega arith in
     rw (drop_place lines n col h (omega arith), e) (take-append-le (to - col) (drop col (line_in lines n)) (behind_lf (drop (suc n) lines)) (omega (arith, length-drop col (line_in lines n))))
 
-drop_line : (lines : List (List ℕ)) (n : ℕ) → n < length lines → drop n lines ≡ line_in lines n ∷ drop (suc n) lines
+pub drop_line : (lines : List (List ℕ)) (n : ℕ) → n < length lines → drop n lines ≡ line_in lines n ∷ drop (suc n) lines
 drop_line [] n h = absurd (omega arith)
 drop_line (line ∷ lines) zero h = refl
 drop_line (line ∷ lines) (suc n) h = drop_line lines n (omega arith)
