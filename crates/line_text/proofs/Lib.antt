@@ -1,6 +1,8 @@
+pub mod CarriedRuns
 pub mod CountedSizes
 pub mod FileTexts
 pub mod JoinedLines
+pub mod LeadingRuns
 pub mod NormedText
 pub mod Outcomes
 pub mod Places

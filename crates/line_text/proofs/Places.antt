@@ -1,7 +1,7 @@
 -- What lies between two places of a text.
 use Rattle.std.proofs.Common.{◌≡◌, ◌≢◌, ℕ, zero, suc, ◌+◌, ◌-◌, ◌<◌, ◌≤◌, ◌⊎◌, inl, inr, List, [], ◌∷◌, ◌++◌, length, get_or, take, drop, Bool, true, false, cond, refl, ap, sym, ◌∙◌, arith, append_assoc, eqb, add-suc, add-one, zero-add}
 use Rattle.std.specs.Prelude.{sum_by}
-use Rattle.std.proofs.lemmas.Bool.{ltb-true, ltb-false, leb-true, and_parts, or_parts, and_cases, eqb-false, not-true, le-ltb, cases_lt}
+use Rattle.std.proofs.lemmas.Bool.{ltb-true, ltb-false, leb-true, and_parts, or_parts, and_cases, eqb-false, not-true, le-ltb, cases_lt, or_from, and_right}
 use Rattle.std.proofs.lemmas.Bool.Decides.{nat_tests}
 use Rattle.std.proofs.lemmas.List.{length-append, length-drop, append-nil, take_all, take-append-le, drop-append-le}
 use Rattle.std.proofs.lemmas.List.Sums.{sum_by-cons}
@@ -81,7 +81,7 @@ piece_part lines n col to h i j =
     let e : (start lines n + to) - (start lines n + col) ≡ to - col = omega arith in
     rw (drop_place lines n col h (omega arith), e) (take-append-le (to - col) (drop col (line_in lines n)) (behind_lf (drop (suc n) lines)) (omega (arith, length-drop col (line_in lines n))))
 
-drop_line : (lines : List (List ℕ)) (n : ℕ) → n < length lines → drop n lines ≡ line_in lines n ∷ drop (suc n) lines
+pub drop_line : (lines : List (List ℕ)) (n : ℕ) → n < length lines → drop n lines ≡ line_in lines n ∷ drop (suc n) lines
 drop_line [] n h = absurd (omega arith)
 drop_line (line ∷ lines) zero h = refl
 drop_line (line ∷ lines) (suc n) h = drop_line lines n (omega arith)
@@ -188,3 +188,17 @@ pub copied_part : (lines : List (List ℕ)) (n col : ℕ) (to : Pos) (line befor
     → before ++ piece lines n col (start lines to.line + to.col) ≡ whole → after ≡ whole
 copied_part lines n col to line before after whole p e l is_line is_after h =
     is_after ∙ ap (λ (cs : List ℕ). before ++ cs) (rw (is_line) (sym (piece_part lines to.line col to.col p.line l p.col)) ∙ ap (λ (m : ℕ). piece lines m col (start lines to.line + to.col)) (sym e)) ∙ h
+
+start_total : (lines : List (List ℕ)) → 0 < length lines → start lines (length lines) ≡ length (joined lines) + 1
+start_total [] h = absurd (omega arith)
+start_total (line ∷ []) h = omega (arith, start_cons line [] zero, length-append line [])
+start_total (line ∷ next ∷ lines) h = omega (arith, start_cons line (next ∷ lines) (suc (length lines)), start_total (next ∷ lines) (omega arith), length-append line (10 ∷ joined (next ∷ lines)))
+
+-- the offset of the last line's end
+pub offset_end : (text : List ℕ) (n : ℕ) → n + 1 ≡ line_count text → start (lines_of text) n + length (line_of text n) ≡ length text
+offset_end text n e =
+    let lines = lines_of text in
+    omega (arith, start_next lines n (omega arith), start_total lines (line_count-pos text), ap (start lines) e, ap length (joined-lines_of text))
+
+pub is_before-origin : (at : Pos) → is_before at (record { line = 0; col = 0 }) ≡ false
+is_before-origin at = or_from _ _ (le-ltb at.line 0 (omega arith)) (and_right _ _ (le-ltb at.col 0 (omega arith)))

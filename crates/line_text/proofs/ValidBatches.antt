@@ -1,8 +1,8 @@
 -- A batch whose edits are in range and in order, and the size of the text that it makes.
 use Rattle.std.proofs.Common.{◌≡◌, ℕ, zero, suc, ◌+◌, ◌-◌, ◌<◌, ◌≤◌, ◌⊎◌, inl, inr, Option, Some, None, List, [], ◌∷◌, ◌++◌, length, get_or, take, drop, Bool, true, false, cond, refl, ap, subst, sym, ◌∙◌, arith, append_assoc}
 use Rattle.std.specs.Prelude.{sum_by}
-use Rattle.std.proofs.lemmas.Bool.{and_parts, not-true, cases_lt, ne_eqb}
-use Rattle.std.proofs.lemmas.List.{length-append, length-drop, length-take-le, append-nil}
+use Rattle.std.proofs.lemmas.Bool.{and_parts, and_from, not-true, cases_lt, ne_eqb, lt-ltb, le-leb}
+use Rattle.std.proofs.lemmas.List.{length-append, length-drop, length-take-le, append-nil, drop_more}
 use Rattle.std.proofs.lemmas.List.Sums.{sum_by-cons, sum_by_more, sum_by-take-le}
 use Rattle.text_pos.specs.declared.length.Pos.{Pos}
 use Rattle.text_pos.specs.declared.length.Span.{Span}
@@ -14,7 +14,7 @@ use Rattle.line_text.specs.Sizes.{IsSizeOf}
 use Rattle.line_text.specs.Lines.{joined, behind_lf, ended, IsLine, AreLines}
 use Rattle.line_text.proofs.JoinedLines.{lines_of-append, all_onto, all_onto-cons, lines_of-behind, line_in-IsLine, IsLine-take, IsLine-drop}
 use Rattle.line_text.proofs.CountedSizes.{line_count-append, line_count-cons, line_count-pos}
-use Rattle.line_text.proofs.Places.{start, start_step, start_mono, piece, piece_part, piece_line, drop_place, IsPlace, IsFrom, later_line, same_line, IsPlace-holds, IsFrom-is_before, offset_le, offset_within, joined-lines_of, AreLines-lines_of, IsFrom-lines, IsFrom-cols, lines_of-drop_place}
+use Rattle.line_text.proofs.Places.{start, start_step, start_mono, piece, piece_part, piece_line, drop_place, IsPlace, IsFrom, later_line, same_line, IsPlace-holds, IsFrom-is_before, offset_le, offset_within, joined-lines_of, AreLines-lines_of, IsFrom-lines, IsFrom-cols, lines_of-drop_place, is_before-origin}
 
 -- an edit that may come where the one before it ends at a place
 pub record IsNext (lines : List (List ℕ)) (at : Pos) (e : TextEdit) : Type 0 where
@@ -215,3 +215,50 @@ IsSizeOf-edited text es size kept_chars kept_lines added_chars added_line_ends h
       chars = omega (arith, length-replaced text origin es (IsPlace-origin text) valid);
       lines = omega (arith, line_count-replaced text origin es (IsPlace-origin text) valid)
     }
+
+-- what a loop that goes from span to span knows at its edit number i, where the edit before it ends at `at`
+pub record AtSpan (text : List ℕ) (at : Pos) (es : List TextEdit) (i : ℕ) (span : Span) (cs : List ℕ) : Type 0 where
+  pub from : holds text span.from ≡ true
+  pub to : holds text span.to ≡ true
+  pub behind : is_before span.from at ≡ false
+  pub later : edit_fault text (Some span.to) 0 (drop (i + 1) es) ≡ None
+  pub replaces : replaced text (offset_of text at) (drop i es) ≡ take (offset_of text span.from - offset_of text at) (drop (offset_of text at) text) ++ (norm cs ++ replaced text (offset_of text span.to) (drop (i + 1) es))
+
+edit_fault-renumbered : (text : List ℕ) (before : Option Pos) (m n : ℕ) (es : List TextEdit) → edit_fault text before m es ≡ None → edit_fault text before n es ≡ None
+edit_fault-renumbered text before m n [] h = refl
+edit_fault-renumbered text before m n (e ∷ es) h =
+    let parts = first_fault-None (is_in_range text e) (is_in_order before e) m (edit_fault text (Some e.span.to) (suc m) es) h in
+    let later = edit_fault-renumbered text (Some e.span.to) (suc m) (suc n) es parts.2 in
+    rw (parts.0, parts.1) later
+
+at_drop : (text : List ℕ) (at : Pos) (es : List TextEdit) (i : ℕ) (d : TextEdit) → edit_fault text (Some at) 0 (drop i es) ≡ None → i < length es → AtSpan text at es i (get_or es i d).span (get_or es i d).text
+at_drop text at es i d h l =
+    let e = get_or es i d in
+    let split = drop_more es i d l in
+    let parts = first_fault-None (is_in_range text e) (is_in_order (Some at) e) 0 (edit_fault text (Some e.span.to) 1 (drop (i + 1) es)) (rw split at h) in
+    let range = and_parts _ _ parts.0 in
+    let places = and_parts _ _ range.0 in
+    record {
+      from = places.0;
+      to = places.1;
+      behind = not-true _ parts.1;
+      later = edit_fault-renumbered text (Some e.span.to) 1 0 (drop (i + 1) es) parts.2;
+      replaces = ap (replaced text (offset_of text at)) split
+    }
+
+pub at_span : (text : List ℕ) (at : Pos) (es : List TextEdit) (i : ℕ) (e : TextEdit) (span : Span) → edit_fault text (Some at) 0 (drop i es) ≡ None → i < length es → e ≡ get_or es i e → span ≡ e.span → AtSpan text at es i span e.text
+at_span text at es i e span h l is same =
+    rw same (subst (λ x. AtSpan text at es i x.span x.text) (sym is) (at_drop text at es i e h l))
+
+-- the first edit has nothing before it
+pub edit_fault-origin : (text : List ℕ) (n : ℕ) (es : List TextEdit) → edit_fault text None n es ≡ None → edit_fault text (Some origin) n es ≡ None
+edit_fault-origin text n [] h = refl
+edit_fault-origin text n (e ∷ es) h = rw (is_before-origin e.span.from) h
+
+pub holds-origin : (text : List ℕ) → holds text origin ≡ true
+holds-origin text = and_from _ _ (lt-ltb 0 (line_count text) (line_count-pos text)) (le-leb 0 (length (line_of text 0)) (omega arith))
+
+-- a piece was copied and a text added
+pub built_step : (draft copied added piece text rest left whole : List ℕ) → copied ≡ draft ++ piece → added ≡ copied ++ text → left ≡ piece ++ (text ++ rest) → draft ++ left ≡ whole → added ++ rest ≡ whole
+built_step draft copied added piece text rest left whole c a l h =
+    ap (λ (xs : List ℕ). xs ++ rest) (a ∙ ap (λ (xs : List ℕ). xs ++ text) c) ∙ append_assoc (draft ++ piece) text rest ∙ append_assoc draft piece (text ++ rest) ∙ ap (λ (xs : List ℕ). draft ++ xs) (sym l) ∙ h
