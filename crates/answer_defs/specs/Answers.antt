@@ -22,9 +22,12 @@ pub record Settings : Type 0 where
   pub texts : List BracketText
   pub limits : Limits
 
+abbrev pub settings_of : List BracketText → Limits → Settings
+settings_of texts limits = record { texts = texts; limits = limits }
+
 -- the built-in pairs, at these limits
 abbrev pub usual : Limits → Settings
-usual limits = record { texts = usual_texts; limits = limits }
+usual limits = settings_of usual_texts limits
 
 -- the marks of a text
 abbrev pub marks_in_text : Settings → List ℕ → List Mark
