@@ -1,12 +1,12 @@
 -- What the readings of a JSON value say where its kind is known.
-use Rattle.std.proofs.Common.{◌≡◌, ◌≢◌, ◌<◌, ◌≤◌, ℕ, suc, List, [], ◌∷◌, length, map, refl, sym, ap, ◌∙◌, arith}
-use Rattle.std.specs.Prelude.{Option, Some, None, slice_get, String, string_bytes}
+use Rattle.std.proofs.Common.{◌≡◌, ◌≢◌, ◌<◌, ◌≤◌, List, [], ◌∷◌, length, refl, sym, ap, ◌∙◌, arith}
+use Rattle.std.specs.Prelude.{Some, None, slice_get, String, string_bytes, option_and_then}
 use Rattle.std.specs.declared.alloc.Global.{Global}
-use Rattle.serde_json.specs.Data.{Num, Data, null, boolean, number, string, array, object, Items, no_items, item, Members, no_members, member}
+use Rattle.serde_json.specs.Data.{Data, null, boolean, number, string, array, object, Items, Members}
 use Rattle.serde_json.specs.Find.{as_array, as_object}
-use Rattle.serde_json.specs.View.{items_of, members_of, items_view, members_view, view}
+use Rattle.serde_json.specs.View.{items_view, members_view, view}
 use Rattle.serde_json.specs.declared.value.Value.{Value}
-use Rattle.script_words.specs.Script.{only_member, only_of_members, pair_in, pair_of_items}
+use Rattle.script_words.specs.Script.{edit_in, edit_of_items, only_member, only_of_members, pair_in, pair_of_items}
 
 -- an object's members are those that it tells
 only_member-object : (d : Data) (ms : Members) → Some ms ≡ as_object d → only_member d ≡ only_of_members ms
@@ -60,3 +60,23 @@ no_pair-few d vs e h = sym (pair_in-array d (items_view vs) e ∙ pair_of_items-
 
 pub no_pair-many : (d : Data) (vs : List Value) → Some (items_view vs) ≡ as_array d → 3 ≤ length vs → None ≡ pair_in d
 no_pair-many d vs e h = sym (pair_in-array d (items_view vs) e ∙ pair_of_items-many vs h)
+
+-- an edit has five items
+edit_of_items-other : (vs : List Value) → length vs ≢ 5 → edit_of_items (items_view vs) ≡ None
+edit_of_items-other [] h = refl
+edit_of_items-other (a ∷ []) h = refl
+edit_of_items-other (a ∷ b ∷ []) h = refl
+edit_of_items-other (a ∷ b ∷ c ∷ []) h = refl
+edit_of_items-other (a ∷ b ∷ c ∷ d ∷ []) h = refl
+edit_of_items-other (a ∷ b ∷ c ∷ d ∷ t ∷ []) h = absurd (h refl)
+edit_of_items-other (a ∷ b ∷ c ∷ d ∷ t ∷ u ∷ vs) h = refl
+
+pub no_short_edit : (d : Data) (vs : List Value) → Some (items_view vs) ≡ as_array d → length vs < 5 → None ≡ edit_in d
+no_short_edit d vs e h =
+    let other : length vs ≢ 5 = λ five. omega arith in
+    sym (ap (option_and_then edit_of_items) (sym e) ∙ edit_of_items-other vs other)
+
+pub no_long_edit : (d : Data) (vs : List Value) → Some (items_view vs) ≡ as_array d → 6 ≤ length vs → None ≡ edit_in d
+no_long_edit d vs e h =
+    let other : length vs ≢ 5 = λ five. omega arith in
+    sym (ap (option_and_then edit_of_items) (sym e) ∙ edit_of_items-other vs other)

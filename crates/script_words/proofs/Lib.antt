@@ -1,2 +1,3 @@
 mod DataLemmas
+mod EditLemmas
 mod ReplyLemmas

@@ -1,5 +1,5 @@
 -- A reply has whole numbers alone.
-use Rattle.std.proofs.Common.{◌≡◌, ℕ, List, [], ◌∷◌, map, refl, ap, Bool, false, ◌||◌}
+use Rattle.std.proofs.Common.{◌≡◌, List, [], ◌∷◌, map, refl, ap, false, ◌||◌}
 use Rattle.serde_json.specs.View.{items_of}
 use Rattle.serde_json.specs.Written.{has_float, items_have_float}
 use Rattle.answer_defs.specs.declared.answer.BracketRow.{BracketRow}
@@ -7,7 +7,7 @@ use Rattle.answer_defs.specs.declared.answer.Answer.{Answer}
 use Rattle.answer_defs.specs.declared.answer.Answer.TheVariants as answer
 use Rattle.script_words.specs.declared.reply.Reply.{Reply}
 use Rattle.script_words.specs.declared.reply.Reply.TheVariants as reply
-use Rattle.script_words.specs.ReplyText.{answer_data, reply_data, row_data, rows_data}
+use Rattle.script_words.specs.ReplyText.{answer_data, reply_data, row_data}
 
 has_float-rows : (rows : List BracketRow) → items_have_float (items_of (map row_data rows)) ≡ false
 has_float-rows [] = refl

@@ -1,7 +1,7 @@
 -- The text of a reply: compact JSON as serde_json writes it, and one LF. The members are this project's own.
 use Rattle.std.specs.Prelude.{ℕ, List, [], ◌∷◌, ◌++◌, map, codes, true}
 use Rattle.std.specs.Str.{encode_utf8_all}
-use Rattle.serde_json.specs.Data.{unsigned, Data, boolean, number, string, array, object, Items, no_items, item, Members, no_members, member}
+use Rattle.serde_json.specs.Data.{unsigned, Data, boolean, number, string, array, object, no_members, member}
 use Rattle.serde_json.specs.View.{items_of}
 use Rattle.serde_json.specs.Written.{compact_text}
 use Rattle.answer_defs.specs.declared.answer.BracketRow.{BracketRow}

@@ -1,17 +1,22 @@
 ghost use Rattle.std.specs.Prelude.{◌≡◌, IfOk, IsErrOf, option_map, Some, None};
-ghost use Rattle.serde_json.specs.View.{view};
+ghost use Rattle.std.specs.Str.{chars};
+ghost use Rattle.serde_json.specs.View.{view, items_view};
 ghost use Rattle.answer_defs.specs.declared.refusal.Refusal.TheVariants as refusal;
-ghost use Rattle.script_words.specs.Script.{meaning_of, json_of, refused, command, command_in, member_command, only_member, number_in, pair_in, turn_of};
+ghost use Rattle.script_words.specs.Script.{both, meaning_of, json_of, refused, command, command_in, member_command, numbers_command, only_member, number_in, pair_in, turn_of, edit_in, edits_in, edits_of_items};
 
 use answer_defs::Question;
+use line_text::{Edit, Edits};
 use serde_json::Value;
 use std::alloc::{AllocError, Global};
 use std::str;
+use text_pos::{Pos, Span};
 use thiserror::Error;
 
-/// What a script line asks for.
+/// What a script line asks for. The commands are this project's own.
 #[derive(Debug, Drop)]
 pub enum Command {
+    /// These edits are made, all at once.
+    Edit(Edits),
     /// So many lines may be done in the background.
     Turn(u32),
     Ask(Question),
@@ -38,7 +43,7 @@ impl Command {
         ensures not_command { IsErrOf result CommandRefusal.Command → meaning_of line.now ≡ refused refusal.Command }
     {
         let value = read_json(alloc, line)?;
-        match command_in(&value) {
+        match command_in(alloc, &value).map_err(CommandRefusal::Memory)? {
             Some(found) => Ok(found),
             None => Err(CommandRefusal::Command),
         }
@@ -66,15 +71,31 @@ fn read_json(alloc: Global, line: &[u8]) -> Result<Value, CommandRefusal>
 }
 
 /// The command that a JSON value is.
-fn command_in(value: &Value) -> Option<Command>
-    ensures { result ≡ command_in (view value.now) }
+fn command_in(alloc: Global, value: &Value) -> Result<Option<Command>, AllocError>
+    ensures { IfOk result (λ c. c ≡ command_in (view value.now)) }
 {
-    let (key, member) = only_member(value)?;
-    member_command(key, member)
+    match only_member(value) {
+        Some((key, member)) => member_command(alloc, key, member),
+        None => Ok(None),
+    }
 }
 
-fn member_command(key: &str, member: &Value) -> Option<Command>
-    ensures { result ≡ member_command key.now (view member.now) }
+fn member_command(alloc: Global, key: &str, member: &Value) -> Result<Option<Command>, AllocError>
+    ensures { IfOk result (λ c. c ≡ member_command key.now (view member.now)) }
+{
+    if key == "edit" {
+        match edits_in(alloc, member)? {
+            Some(edits) => Ok(Some(Command::Edit(edits))),
+            None => Ok(None),
+        }
+    } else {
+        Ok(numbers_command(key, member))
+    }
+}
+
+/// A question, or a turn.
+fn numbers_command(key: &str, member: &Value) -> Option<Command>
+    ensures { result ≡ numbers_command key.now (view member.now) }
 {
     if key == "brackets" {
         let (from, to) = pair_in(member)?;
@@ -119,6 +140,62 @@ fn pair_in(value: &Value) -> Option<(u32, u32)>
         [first, second] => Some((number_in(first)?, number_in(second)?)),
         _ => None,
     }
+}
+
+/// The edits of a list.
+fn edits_in(alloc: Global, value: &Value) -> Result<Option<Edits>, AllocError>
+    ensures { IfOk result (λ es. es ≡ edits_in (view value.now)) }
+{
+    match value.as_array() {
+        Some(items) => edits_of(alloc, items.as_slice()),
+        None => Ok(None),
+    }
+}
+
+fn edits_of(alloc: Global, items: &[Value]) -> Result<Option<Edits>, AllocError>
+    ensures { IfOk result (λ es. es ≡ edits_of_items (items_view items.now)) }
+{
+    let mut edits = Edits::new(alloc);
+    for item in items {
+        match edit_in(alloc, item)? {
+            Some(edit) => edits.push(edit)?,
+            None => return Ok(None),
+        }
+    }
+    Ok(Some(edits))
+}
+
+fn edit_in(alloc: Global, value: &Value) -> Result<Option<Edit>, AllocError>
+    ensures { IfOk result (λ e. e ≡ edit_in (view value.now)) }
+{
+    match edit_parts(value) {
+        Some((span, text)) => Ok(Some(Edit::new(alloc, span, text)?)),
+        None => Ok(None),
+    }
+}
+
+/// The span and the text of an edit: a list of four numbers and a string.
+#[tactic(auto, using(crate::proofs::DataLemmas::no_short_edit, crate::proofs::DataLemmas::no_long_edit))]
+fn edit_parts(value: &Value) -> Option<(Span, &str)>
+    ensures { option_map (λ e. record { span = e.0; text = chars e.1.now }) result ≡ edit_in (view value.now) }
+{
+    match value.as_array()?.as_slice() {
+        [from_line, from_col, to_line, to_col, text] => {
+            let from = pos_of(from_line, from_col)?;
+            let to = pos_of(to_line, to_col)?;
+            Some((Span { from, to }, text.as_str()?))
+        }
+        _ => None,
+    }
+}
+
+fn pos_of(line: &Value, col: &Value) -> Option<Pos>
+    ensures { option_map (λ p. (p.line, p.col)) result ≡ both (number_in (view line.now)) (number_in (view col.now)) }
+{
+    Some(Pos {
+        line: number_in(line)?,
+        col: number_in(col)?,
+    })
 }
 
 /// A whole number of 32 bits.

@@ -6,4 +6,5 @@ pub mod reply;
 
 pub use answer_defs::{Answer, BracketRow, MarkAt, Question, Refusal, Rows};
 pub use command::{Command, CommandRefusal};
+pub use line_text::{Edit, Edits};
 pub use reply::Reply;

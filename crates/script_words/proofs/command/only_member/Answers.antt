@@ -1,4 +1,4 @@
-use Rattle.std.proofs.Common.{◌≡◌, ◌≢◌, sym, ◌∙◌, length, arith, cond, ap}
+use Rattle.std.proofs.Common.{◌≡◌, ◌≢◌, ◌∙◌, length, arith, ap}
 use Rattle.std.specs.Prelude.{Some}
 use Rattle.serde_json.specs.View.{view}
 use Rattle.script_words.proofs.DataLemmas.{no_only_member, the_only_member}

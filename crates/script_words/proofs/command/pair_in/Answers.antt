@@ -1,4 +1,4 @@
-use Rattle.std.proofs.Common.{◌<◌, ◌≤◌, length, arith, ap, subst, ℕ}
+use Rattle.std.proofs.Common.{◌<◌, ◌≤◌, length, arith, ap}
 use Rattle.script_words.proofs.DataLemmas.{no_pair-few, no_pair-many}
 use Rattle.script_words.proofs.command.pair_in.Goals as goal
 
