@@ -54,3 +54,8 @@ has_text bytes size u counts few_chars few_lines =
     let chars_fit : length (text_of bytes) ≤ most_chars = omega (arith, counts.chars) in
     let lines_fit : line_count (text_of bytes) ≤ most_lines = omega (arith, counts.lines) in
     and_from _ _ (is_utf8-true bytes u) (and_from _ _ (le-leb _ _ chars_fit) (le-leb _ _ lines_fit))
+
+-- the lines of what bytes add to a text
+pub line_count-norm : (bytes cs : List ℕ) → IsUtf8 bytes → chars bytes ≡ cs → line_count (norm cs) ≤ length bytes + 1
+line_count-norm bytes cs u e =
+    omega (arith, line_count_le (norm cs), length-norm cs, length-le-encodes (chars bytes), ap length (encodes-chars bytes u), ap (length {A = ℕ}) e)

@@ -1,5 +1,5 @@
 -- The lines of joined lines are those lines again.
-use Rattle.std.proofs.Common.{◌≡◌, ◌≢◌, ℕ, zero, suc, ◌+◌, ◌<◌, ◌≤◌, List, [], ◌∷◌, ◌++◌, length, All, get_or, map, refl, ap, sym, ◌∙◌, arith, add_assoc}
+use Rattle.std.proofs.Common.{◌≡◌, ◌≢◌, ℕ, zero, suc, ◌+◌, ◌<◌, ◌≤◌, List, [], ◌∷◌, ◌++◌, length, All, get_or, map, take, drop, Bool, true, false, cond, refl, ap, sym, ◌∙◌, arith, add_assoc}
 use Rattle.std.proofs.lemmas.Bool.{ne_eqb}
 use Rattle.std.proofs.lemmas.List.{length-append, append-nil, append_assoc}
 use Rattle.text_defs.specs.Text.{lines_of, line_in, onto_first, before_lines}
@@ -72,3 +72,18 @@ behind_lf-push (first ∷ lines) line = rw (behind_lf-push lines line) (ap (λ (
 pub joined-push : (lines : List (List ℕ)) (line : List ℕ) → joined (lines ++ line ∷ []) ≡ ended lines ++ line
 joined-push [] line = append-nil line
 joined-push (first ∷ lines) line = rw (behind_lf-push lines line) (sym (append_assoc first (10 ∷ ended lines) line))
+
+pub IsLine-drop : (n : ℕ) (line : List ℕ) → IsLine line → IsLine (drop n line)
+IsLine-drop zero line h = h
+IsLine-drop (suc n) [] h = tt
+IsLine-drop (suc n) (c ∷ cs) h = IsLine-drop n cs h.1
+
+pub IsLine-take : (n : ℕ) (line : List ℕ) → IsLine line → IsLine (take n line)
+IsLine-take zero line h = tt
+IsLine-take (suc n) [] h = tt
+IsLine-take (suc n) (c ∷ cs) h = (h.0, IsLine-take n cs h.1)
+
+-- what a call that may have failed leaves
+pub IsLine-cond : (b : Bool) (xs ys : List ℕ) → IsLine xs → IsLine ys → IsLine (cond b (xs ++ ys) xs)
+IsLine-cond true xs ys h i = IsLine-append xs ys h i
+IsLine-cond false xs ys h i = h

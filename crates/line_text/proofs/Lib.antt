@@ -1,4 +1,9 @@
+pub mod CarriedRuns
 pub mod CountedSizes
 pub mod FileTexts
 pub mod JoinedLines
+pub mod LeadingRuns
 pub mod NormedText
+pub mod Outcomes
+pub mod Places
+pub mod ValidBatches

@@ -1,5 +1,5 @@
 -- How a list of lines stands for a text: joined by LFs. That a text is kept as lines is this project's own.
-use Rattle.std.specs.Prelude.{◌≡◌, ◌≢◌, ℕ, ◌≤◌, ◌<◌, List, [], ◌∷◌, ◌++◌, length}
+use Rattle.std.specs.Prelude.{◌≡◌, ◌≢◌, ℕ, ◌≤◌, ◌<◌, List, [], ◌∷◌, ◌++◌, length, Option, Some, None}
 use Rattle.text_defs.specs.Text.{most_chars, most_lines}
 
 -- the lines, an LF before each
@@ -16,6 +16,11 @@ joined (line ∷ lines) = line ++ behind_lf lines
 abbrev pub ended : List (List ℕ) → List ℕ
 ended [] = []
 ended (line ∷ lines) = line ++ 10 ∷ ended lines
+
+-- the characters of a line that may be missing
+abbrev pub chars_of : Option (List ℕ) → List ℕ
+chars_of None = []
+chars_of (Some line) = line
 
 -- a line holds no LF
 abbrev pub IsLine : List ℕ → Type 0

@@ -1,7 +1,11 @@
 ghost use Rattle.std.specs.Prelude.{◌≡◌, ◌≤◌, ℕ, List, [], ◌∷◌, ◌++◌, length, OnOk, IfOk};
+ghost use Rattle.std.specs.Prelude.{◌-◌, take, drop};
+ghost use Rattle.std.specs.Option.{option_map};
+ghost use Rattle.std.specs.Rc.{rc_value};
 ghost use Rattle.std.specs.Str.{chars};
 ghost use Rattle.text_defs.specs.Text.{line_count, most_chars, most_lines};
 ghost use Rattle.line_text.specs.LineEnds.{normed};
+ghost use Rattle.line_text.specs.Lines.{chars_of, IsLine};
 
 use crate::before::Before;
 use crate::text::{Line, Text};
@@ -13,20 +17,27 @@ use std::rc::Rc;
 #[derive(Drop)]
 pub(crate) struct Draft {
     alloc: Global,
+    /// The lines that have an end.
     done: Vec<Rc<Line>>,
+    /// A line of another text with which the open line begins.
+    shared: Option<Rc<Line>>,
+    /// The open line's characters behind that.
     current: Vec<char>,
 }
 
 impl Model for Draft {
     ghost use Rattle.std.specs.Prelude.{List, ℕ, map, ◌++◌};
+    ghost use Rattle.std.specs.Option.{option_map};
     ghost use Rattle.std.specs.Rc.{rc_value};
-    ghost use Rattle.line_text.specs.Lines.{ended, IsLine, AreLines};
+    ghost use Rattle.line_text.specs.Lines.{ended, chars_of, IsLine, AreLines};
 
     ghost Value = { List ℕ };
 
-    ghost view = { λ draft. ended (map rc_value draft.done.items) ++ draft.current.items };
+    ghost view = { λ draft. ended (map rc_value draft.done.items)
+        ++ (chars_of (option_map rc_value draft.shared) ++ draft.current.items) };
 
-    ghost invariant = { λ draft. AreLines (map rc_value draft.done.items) × IsLine draft.current.items };
+    ghost invariant = { λ draft. AreLines (map rc_value draft.done.items)
+        × IsLine (chars_of (option_map rc_value draft.shared)) × IsLine draft.current.items };
 }
 
 impl Draft {
@@ -36,6 +47,7 @@ impl Draft {
         Draft {
             alloc,
             done: Vec::new(alloc),
+            shared: None,
             current: Vec::new(alloc),
         }
     }
@@ -56,10 +68,27 @@ impl Draft {
     fn end_line(&mut self) -> Result<(), AllocError>
         ensures { OnOk result (self.new ≡ self.old ++ 10 ∷ []) }
     {
-        let line = Line::of(self.alloc, self.current.as_slice())?;
-        self.done.push(Rc::new(self.alloc, line)?)?;
+        let line = whole_line(self.alloc, self.shared.take(), self.current.as_slice())?;
+        self.done.push(line)?;
         self.current.clear();
         Ok(())
+    }
+
+    /// Adds a part of a line of another text. A whole line is shared where it begins the open line.
+    pub(crate) fn put_part(&mut self, line: &Rc<Line>, from: usize, to: usize) -> Result<(), AllocError>
+        requires rises { from ≤ to }
+        requires within { to ≤ length line.now.value }
+        requires no_lf { IsLine line.now.value }
+        ensures { OnOk result (self.new ≡ self.old ++ take (to - from) (drop from line.now.value)) }
+    {
+        let chars = line.chars();
+        let is_whole = from == 0 && to == chars.len();
+        if is_whole && self.shared.is_none() && self.current.is_empty() {
+            self.shared = Some(line.clone()?);
+            Ok(())
+        } else {
+            self.current.extend_from_slice(&chars[from..to])
+        }
     }
 
     /// Adds what these characters add to a text.
@@ -81,8 +110,28 @@ impl Draft {
         requires few_lines { line_count self ≤ most_lines }
         ensures { IfOk result (λ text. text ≡ self) }
     {
-        let line = Line::of(self.alloc, self.current.as_slice())?;
-        self.done.push(Rc::new(self.alloc, line)?)?;
+        let line = whole_line(self.alloc, self.shared.take(), self.current.as_slice())?;
+        self.done.push(line)?;
         Ok(Text::of_lines(self.done, chars))
+    }
+}
+
+/// The line that begins with this line of another text and goes on with these characters.
+fn whole_line(
+    alloc: Global,
+    shared: Option<Rc<Line>>,
+    rest: &[char],
+) -> Result<Rc<Line>, AllocError>
+    ensures { IfOk result (λ line. line.value ≡ chars_of (option_map rc_value shared) ++ rest.now) }
+{
+    match shared {
+        Some(line) => {
+            if rest.is_empty() {
+                Ok(line)
+            } else {
+                Ok(Rc::new(alloc, Line::of(alloc, line.chars(), rest)?)?)
+            }
+        }
+        None => Ok(Rc::new(alloc, Line::of(alloc, &[], rest)?)?),
     }
 }

@@ -1,4 +1,4 @@
-ghost use Rattle.std.specs.Prelude.{◌≡◌, ◌≢◌, ◌^◌, ◌<◌, ◌≤◌, All, length, IfOk};
+ghost use Rattle.std.specs.Prelude.{◌≡◌, ◌≢◌, ◌^◌, ◌++◌, ◌<◌, ◌≤◌, All, length, IfOk};
 ghost use Rattle.text_defs.specs.Text.{line_count, line_of};
 ghost use Rattle.text_defs.specs.Place.{holds};
 
@@ -22,13 +22,14 @@ impl Model for Line {
 }
 
 impl Line {
-    /// A line with a copy of these characters.
-    pub(crate) fn of(alloc: Global, chars: &[char]) -> Result<Line, AllocError>
-        ensures { IfOk result (λ line. line ≡ chars.now) }
+    /// A line with a copy of these characters and then of those.
+    pub(crate) fn of(alloc: Global, front: &[char], rest: &[char]) -> Result<Line, AllocError>
+        ensures { IfOk result (λ line. line ≡ front.now ++ rest.now) }
     {
-        Ok(Line {
-            chars: Vec::from_slice(alloc, chars)?,
-        })
+        let mut chars = Vec::with_capacity(alloc, front.len() + rest.len())?;
+        chars.extend_from_slice(front)?;
+        chars.extend_from_slice(rest)?;
+        Ok(Line { chars })
     }
 
     pub fn chars(&self) -> &[char]
@@ -58,7 +59,7 @@ impl Model for Text {
 }
 
 impl Text {
-    ghost use Rattle.line_text.specs.Lines.{joined, IsKept};
+    ghost use Rattle.line_text.specs.Lines.{joined, IsLine, IsKept};
     ghost use Rattle.std.specs.Prelude.{map};
     ghost use Rattle.std.specs.Rc.{rc_value};
 
@@ -93,6 +94,16 @@ impl Text {
         ensures line { result.now ≡ line_of self.now n }
         ensures no_lf { All (λ c. c ≢ 10) result.now }
         ensures few { length result.now ≤ 2 ^ 22 }
+    {
+        self.shared_line(n)
+    }
+
+    /// Line `n`, to be shared with another text.
+    pub(crate) fn shared_line(&self, n: u32) -> &Rc<Line>
+        requires { n < line_count self.now }
+        ensures line { result.now.value ≡ line_of self.now n }
+        ensures no_lf { IsLine result.now.value }
+        ensures few { length result.now.value ≤ 2 ^ 22 }
     {
         &self.lines[n as usize]
     }

@@ -1,1 +1,6 @@
+pub mod CutLaws
+pub mod Cuts
+pub mod FileEnds
+pub mod Mem
+pub mod Pending
 pub mod Told

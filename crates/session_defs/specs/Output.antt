@@ -1,6 +1,7 @@
 -- All that the program writes for a text file and a script.
 use Rattle.std.specs.Prelude.{ℕ, ◌^◌, ◌==◌, ◌&&◌, List, [], ◌∷◌, ◌++◌, length, map, nat_le, Bool, if◌then◌else◌}
 use Rattle.text_pos.specs.declared.limits.Limits.{Limits}
+use Rattle.answer_defs.specs.Answers.{Settings, usual}
 use Rattle.text_defs.specs.Text.{text_of, is_text, whole_lines, unfinished}
 use Rattle.script_words.specs.ReplyText.{reply_text}
 use Rattle.script_words.specs.Script.{Reading, reading_of}
@@ -28,13 +29,13 @@ abbrev pub script_lines : List ℕ → List (List ℕ)
 script_lines script = whole_lines script ++ line_if_any (unfinished script)
 
 -- the open reply, and the replies to these lines
-abbrev pub written_for : Limits → List ℕ → List (List ℕ) → List ℕ
-written_for limits text lines = reply_text (opened text) ++ replies_to limits text (map reading_of lines)
+abbrev pub written_for : Settings → List ℕ → List (List ℕ) → List ℕ
+written_for settings text lines = reply_text (opened text) ++ replies_to settings text (map reading_of lines)
 
 -- what is written where the script is read to its end
 abbrev pub output_of : Limits → List ℕ → List ℕ → List ℕ
-output_of limits file script = written_for limits (text_of file) (script_lines script)
+output_of limits file script = written_for (usual limits) (text_of file) (script_lines script)
 
 -- what is written for these bytes of a script, of which more may come: each whole line has its reply
 abbrev pub written_so_far : Limits → List ℕ → List ℕ → List ℕ
-written_so_far limits file taken = written_for limits (text_of file) (whole_lines taken)
+written_so_far limits file taken = written_for (usual limits) (text_of file) (whole_lines taken)

@@ -32,8 +32,11 @@ value_of word = fold (λ n c. 10 * n + (c - 48)) 0 word
 abbrev pub is_nesting : List ℕ → Bool
 is_nesting word = is_number word && (nat_le 1 (value_of word) && nat_le (value_of word) 300)
 
+abbrev pub request_for : List ℕ → Limits → Request
+request_for name limits = record { text = name; limits = limits }
+
 abbrev pub requested : Bool → List ℕ → ℕ → Option Request
-requested fits name nesting = if fits then Some (record { text = name; limits = limits_with nesting }) else None
+requested fits name nesting = if fits then Some (request_for name (limits_with nesting)) else None
 
 -- what the words ask for, of which the first is the program's name; None where they are no command line
 abbrev pub request_of : List (List ℕ) → Option Request

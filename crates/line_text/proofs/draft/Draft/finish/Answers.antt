@@ -1,26 +1,29 @@
 use Rattle.std.proofs.Common.{◌≡◌, ◌<◌, ℕ, List, [], ◌∷◌, ◌++◌, map, length, ap, sym, ◌∙◌, arith}
 use Rattle.std.specs.Rc.{rc_value}
+use Rattle.std.specs.Option.{option_map}
 use Rattle.std.proofs.lemmas.List.{map_push, length-append}
 use Rattle.text_defs.specs.Text.{lines_of}
-use Rattle.line_text.specs.Lines.{joined, AreLines, IsKept}
-use Rattle.line_text.proofs.JoinedLines.{AreLines-push, joined-push, lines_of-joined}
+use Rattle.line_text.specs.Lines.{joined, chars_of, AreLines, IsKept}
+use Rattle.line_text.proofs.JoinedLines.{AreLines-push, IsLine-append, joined-push, lines_of-joined}
 use Rattle.line_text.proofs.draft.Draft.finish.Goals as goal
 use Rattle.line_text.proofs.draft.Draft.finish.Goals.{In_ok-push}
 
-has_line : (c : In_ok-push) → map rc_value c.push.new.self.items ≡ map rc_value c.self.inside.done.items ++ c.self.inside.current.items ∷ []
+has_line : (c : In_ok-push) → map rc_value c.push.new.self.items ≡ map rc_value c.self.inside.done.items ++ (chars_of (option_map rc_value c.self.inside.shared) ++ c.self.inside.current.items) ∷ []
 has_line c =
     let done = c.self.inside.done.items in
-    ap (map rc_value) c.in_ok-push.ensures.items ∙ map_push rc_value done c.in_ok-new.field-0
-    ∙ ap (λ (line : List ℕ). map rc_value done ++ line ∷ []) (c.in_ok-new.ensures.ok ∙ c.in_ok-line.ensures ∙ c.as_slice.ensures.value)
+    ap (map rc_value) c.in_ok-push.ensures.items ∙ map_push rc_value done c.in_ok-line.line
+    ∙ ap (λ (line : List ℕ). map rc_value done ++ line ∷ []) (rw (c.as_slice.ensures.value, c.take.ensures.value) at c.in_ok-line.ensures)
 
 is_text : (c : In_ok-push) → joined (map rc_value c.push.new.self.items) ≡ c.args.self
-is_text c = ap joined (has_line c) ∙ joined-push (map rc_value c.self.inside.done.items) c.self.inside.current.items ∙ c.self.view_is
+is_text c =
+    let parts = chars_of (option_map rc_value c.self.inside.shared) ++ c.self.inside.current.items in
+    ap joined (has_line c) ∙ joined-push (map rc_value c.self.inside.done.items) parts ∙ c.self.view_is
 
 pub of_lines-requires : goal.of_lines-requires
 of_lines-requires c =
     let lines = map rc_value c.push.new.self.items in
-    let some_line : 0 < length lines = rw (has_line c) (omega (arith, length-append (map rc_value c.self.inside.done.items) (c.self.inside.current.items ∷ []))) in
-    let no_lf : AreLines lines = rw (has_line c) (AreLines-push _ _ c.self.invariant.0 c.self.invariant.1) in
+    let some_line : 0 < length lines = rw (has_line c) (omega (arith, length-append (map rc_value c.self.inside.done.items) ((chars_of (option_map rc_value c.self.inside.shared) ++ c.self.inside.current.items) ∷ []))) in
+    let no_lf : AreLines lines = rw (has_line c) (AreLines-push _ _ c.self.invariant.0 (IsLine-append _ _ c.self.invariant.1 c.self.invariant.2)) in
     let lines_are = sym (ap lines_of (is_text c)) ∙ lines_of-joined lines some_line no_lf in
     record {
       some_line = some_line;

@@ -4,13 +4,10 @@ use Rattle.text_defs.specs.Text.{text_of}
 use Rattle.line_text.specs.declared.before.Before.TheVariants.{FileStart}
 use Rattle.line_text.specs.LineEnds.{normed}
 use Rattle.line_text.specs.Sizes.{IsSizeOf}
+use Rattle.line_text.proofs.Outcomes.{on_ok}
 use Rattle.line_text.proofs.FileTexts.{has_too_many_chars, has_too_many_lines, has_text}
 use Rattle.line_text.proofs.text.Text.from_bytes.Goals as goal
 use Rattle.line_text.proofs.text.Text.from_bytes.Goals.{After-size_of-size}
-
-on_ok : {T E : Type 0} {P : Type 0} (r : Result T E) → P → OnOk r P
-on_ok (Ok x) p = p
-on_ok (Err e) p = tt
 
 counts : (c : After-size_of-size) → IsSizeOf (text_of c.args.bytes.now) c.size_of-size.result
 counts c = rw c.in-Ok.ensures.cases.0 at c.size_of-size.ensures

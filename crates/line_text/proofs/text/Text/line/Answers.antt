@@ -1,37 +1,5 @@
-use Rattle.std.proofs.Common.{ℕ, ◌<◌, ◌≤◌, ◌≢◌, ◌≡◌, ◌^◌, All, map, length, List, [], sym, ap, ◌∙◌, get_or, arith}
-use Rattle.std.specs.Rc.{rc_value}
-use Rattle.std.proofs.lemmas.List.{length-map, get_or-map}
-use Rattle.text_defs.specs.Text.{lines_of, line_of, line_in, line_count}
-use Rattle.line_text.specs.Lines.{joined}
-use Rattle.line_text.proofs.JoinedLines.{lines_of-joined, line_in-get_or, line_in-IsLine, All-IsLine, length-line_in}
+use Rattle.line_text.proofs.JoinedLines.{All-IsLine}
 use Rattle.line_text.proofs.text.Text.line.Goals as goal
-use Rattle.line_text.proofs.text.Text.line.Goals.{After-self, After-deref}
-
-has_lines : (c : After-self) → lines_of c.args.self.now ≡ map rc_value c.self.inside.lines.items
-has_lines c = rw (← c.self.view_is) (lines_of-joined (map rc_value c.self.inside.lines.items) c.self.invariant.some_line c.self.invariant.no_lf)
-
-is_below : (c : After-self) → c.args.n < length c.self.inside.lines.items
-is_below c = let e = ap (length {A = List ℕ}) (has_lines c) in omega (arith, length-map c.self.inside.lines.items rc_value)
-
-pub index-requires : goal.index-requires
-index-requires c = omega (arith, is_below c, c.self.inside.lines.ok.0)
-
-is_line : (c : After-deref) → c.deref.result.now ≡ line_in (map rc_value c.self.inside.lines.items) c.args.n
-is_line c =
-    let items = c.self.inside.lines.items in
-    let start = (goal.at.returns-clause-line c).After-self in
-    let rc = c.index.result.now in
-    c.deref.ensures ∙ ap rc_value c.index.ensures ∙ sym (get_or-map rc_value items c.args.n rc rc.value (is_below start))
-    ∙ line_in-get_or (map rc_value items) c.args.n rc.value (rw length-map (is_below start))
-
-pub returns-clause-line : goal.returns-clause-line
-returns-clause-line c = rw (has_lines ((goal.at.returns-clause-line c).After-self)) (is_line c)
 
 pub returns-clause-no_lf : goal.returns-clause-no_lf
-returns-clause-no_lf c =
-    rw (is_line c) (All-IsLine _ (line_in-IsLine (map rc_value c.self.inside.lines.items) c.args.n c.self.invariant.no_lf))
-
-pub returns-clause-few : goal.returns-clause-few
-returns-clause-few c =
-    let i = c.self.invariant in
-    omega (arith, i.few_chars, i.counted, ap (length {A = ℕ}) (is_line c), length-line_in (map rc_value c.self.inside.lines.items) c.args.n)
+returns-clause-no_lf c = rw c.deref.ensures (All-IsLine _ c.shared_line.ensures.no_lf)
