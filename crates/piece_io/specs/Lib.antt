@@ -2,5 +2,6 @@ pub mod CutLaws
 pub mod Cuts
 pub mod FileEnds
 pub mod Mem
+pub mod MemFiles
 pub mod Pending
 pub mod Told
