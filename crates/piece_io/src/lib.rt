@@ -20,3 +20,6 @@ pub use mem_source::MemSource;
 pub use sink::Sink;
 pub use source::{Failed, Source};
 pub use whole::{FileEnd, read_file, write_whole};
+
+#[cfg(test)]
+mod tests;

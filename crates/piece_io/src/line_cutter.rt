@@ -97,6 +97,7 @@ impl LineCutter {
     pub fn next_line(&mut self) -> Result<Option<Cut>, AllocError>
         ensures line { IfOk result (λ r. MatchOption r ((next_cut self.old ≡ None) × (self.new ≡ self.old))
             (λ cut. next_cut self.old ≡ Some (cut, self.new))) }
+        ensures ended { self.new.ended ≡ self.old.ended }
         ensures err { OnErr result (self.new ≡ self.old) }
     {
         let left = &self.bytes[self.start..];
