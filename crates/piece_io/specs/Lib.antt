@@ -1,4 +1,5 @@
 pub mod CutLaws
+pub mod CutRuns
 pub mod Cuts
 pub mod FileEnds
 pub mod Mem

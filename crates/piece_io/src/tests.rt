@@ -1,12 +1,15 @@
 ghost use Rattle.std.specs.Prelude.{◌≡◌, ◌<◌, length};
 
+use super::*;
 use std::alloc::{AllocError, Global};
 use std::test::Fail;
 
-use super::*;
-
 // Reads to the end, and shows the pieces: `|` behind each, and `!` for a read that failed.
-fn pieces_of<S: Source>(source: &mut S, into: &mut [u8], alloc: Global) -> Result<Vec<u8>, AllocError>
+fn pieces_of<S: Source>(
+    source: &mut S,
+    into: &mut [u8],
+    alloc: Global,
+) -> Result<Vec<u8>, AllocError>
     requires { 0 < length into.old }
 {
     let mut shown = Vec::new(alloc);
@@ -155,7 +158,12 @@ fn a_file_is_read_whole_or_refused(rt: HostRuntime) -> Result<(), Fail> {
         assert_eq!(rt; answer, want, "{size} bytes, at most {most}");
     }
     let mut files = MemFiles::new(rt.alloc(), &[])?;
-    assert!(rt; matches!(read_file(rt.alloc(), &mut files, "f", 9), Err(FileEnd::Failed)));
+    assert!(rt;
+        matches!(
+            read_file(rt.alloc(), &mut files, "f", 9),
+            Err(FileEnd::Failed)
+        )
+    );
     Ok(())
 }
 
@@ -216,7 +224,11 @@ fn lines_end_at_each_lf_however_the_bytes_come(rt: HostRuntime) -> Result<(), Fa
         for size in [1, 2, 3, 65_536] {
             for at_once in [false, true] {
                 let shown = cut_into_lines(rt.alloc(), bytes, size, at_once)?;
-                assert_eq!(rt; shown.as_slice(), want, "in pieces of {size}, at once: {at_once}");
+                assert_eq!(rt;
+                    shown.as_slice(),
+                    want,
+                    "in pieces of {size}, at once: {at_once}"
+                );
             }
         }
     }
@@ -238,7 +250,11 @@ fn a_line_of_more_than_a_mebibyte_is_too_long(rt: HostRuntime) -> Result<(), Fai
         for piece in [65_536, 1_048_576, 1_048_577, 9_000_000] {
             for at_once in [false, true] {
                 let shown = cut_into_lines(rt.alloc(), &bytes, piece, at_once)?;
-                assert_eq!(rt; shown.as_slice(), want, "{size} in pieces of {piece}, at once: {at_once}");
+                assert_eq!(rt;
+                    shown.as_slice(),
+                    want,
+                    "{size} in pieces of {piece}, at once: {at_once}"
+                );
             }
         }
     }
