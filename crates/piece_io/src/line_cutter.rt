@@ -20,8 +20,9 @@ pub enum Cut {
 /// The most bytes that a line may have.
 pub const MOST_IN_LINE: usize = 1_048_576;
 
-/// Cuts a stream of bytes into lines at each LF, in whatever pieces the stream comes. It keeps no bytes of a
-/// line that is too long, once all lines before it are handed out.
+/// Cuts a stream of bytes into lines at each LF, in whatever pieces the stream comes. Once the lines before it
+/// are handed out, what has come of a line that is too long is let go at the next feed, so that a stream without
+/// an LF takes no more room than a line and a piece.
 #[derive(Drop)]
 pub struct LineCutter {
     alloc: Global,
