@@ -305,4 +305,76 @@ mod tests {
         }
         Ok(())
     }
+
+    #[test]
+    fn refused_batches_leave_the_text(rt: HostRuntime) -> Result<(), Fail> {
+        let rows: [(&str, &[((u32, u32, u32, u32), &str)], &str); 8] = [
+            ("abc", &[((0, 2, 0, 3), "q"), ((0, 0, 0, 1), "q")], "Order { index: 1 }"),
+            ("abc", &[((0, 9, 0, 9), "q")], "Range { index: 0 }"),
+            // A column may be that behind the last character, and no later one.
+            ("ab\ncd", &[((0, 2, 0, 3), "q")], "Range { index: 0 }"),
+            ("ab\ncd", &[((1, 2, 2, 0), "q")], "Range { index: 0 }"),
+            // The end is before the start.
+            ("abc", &[((0, 2, 0, 1), "q")], "Range { index: 0 }"),
+            // At one edit the range is tested first.
+            ("abc", &[((0, 2, 0, 2), "q"), ((0, 1, 0, 9), "q")], "Range { index: 1 }"),
+            // Of two edits the earlier one is named.
+            ("abc", &[((0, 1, 0, 2), "q"), ((0, 1, 0, 2), "q"), ((9, 0, 9, 0), "q")], "Order { index: 1 }"),
+            // The first edits of the batch aren't made.
+            ("abc", &[((0, 0, 0, 1), "x"), ((0, 2, 0, 9), "y")], "Range { index: 1 }"),
+        ];
+        for (before, row, refusal) in rows {
+            let mut text = Text::from_bytes(rt.alloc(), before.as_bytes())?;
+            let whole = shown(rt.alloc(), &text)?;
+            let edits = batch(rt.alloc(), row)?;
+            match text.edited(rt.alloc(), edits.as_slice()) {
+                Ok(_) => panic!(rt; "a batch was taken"),
+                Err(fault) => {
+                    assert_eq!(rt; format!(in rt.alloc(); "{fault:?}")?.as_str(), refusal);
+                }
+            }
+            match text.apply(rt.alloc(), edits.as_slice()) {
+                Ok(_) => panic!(rt; "a batch was taken"),
+                Err(fault) => {
+                    assert_eq!(rt; format!(in rt.alloc(); "{fault:?}")?.as_str(), refusal);
+                }
+            }
+            assert_eq!(rt; shown(rt.alloc(), &text)?.as_str(), whole.as_str());
+        }
+        Ok(())
+    }
+
+    /// A text of so many copies of a character.
+    fn copies(alloc: Global, c: char, count: u32) -> Result<String, AllocError> {
+        let mut text = String::new(alloc);
+        for _ in 0..count {
+            text.push(c)?;
+        }
+        Ok(text)
+    }
+
+    #[test]
+    fn limits_are_the_last_that_is_taken(rt: HostRuntime) -> Result<(), Fail> {
+        let mut text = Text::from_bytes(rt.alloc(), b"")?;
+        let too_many = copies(rt.alloc(), '\n', 262_144)?;
+        let edits = batch(rt.alloc(), &[((0, 0, 0, 0), too_many.as_str())])?;
+        match text.apply(rt.alloc(), edits.as_slice()) {
+            Err(EditRefusal::TooManyLines { count }) => assert_eq!(rt; count, 262_145),
+            _ => panic!(rt; "a batch wasn't refused"),
+        }
+        let most = copies(rt.alloc(), '\n', 262_143)?;
+        let edits = batch(rt.alloc(), &[((0, 0, 0, 0), most.as_str())])?;
+        let _carry = text.apply(rt.alloc(), edits.as_slice())?;
+        assert_eq!(rt; text.lines(), 262_144);
+
+        let most = copies(rt.alloc(), 'a', 4_194_304)?;
+        let mut text = Text::from_bytes(rt.alloc(), most.as_bytes())?;
+        let edits = batch(rt.alloc(), &[((0, 7, 0, 7), "a")])?;
+        match text.apply(rt.alloc(), edits.as_slice()) {
+            Err(EditRefusal::TooManyChars { count }) => assert_eq!(rt; count, 4_194_305),
+            _ => panic!(rt; "a batch wasn't refused"),
+        }
+        assert_eq!(rt; text.chars(), 4_194_304);
+        Ok(())
+    }
 }
