@@ -75,7 +75,12 @@ impl Draft {
     }
 
     /// Adds a part of a line of another text. A whole line is shared where it begins the open line.
-    pub(crate) fn put_part(&mut self, line: &Rc<Line>, from: usize, to: usize) -> Result<(), AllocError>
+    pub(crate) fn put_part(
+        &mut self,
+        line: &Rc<Line>,
+        from: usize,
+        to: usize,
+    ) -> Result<(), AllocError>
         requires rises { from ≤ to }
         requires within { to ≤ length line.now.value }
         requires no_lf { IsLine line.now.value }
