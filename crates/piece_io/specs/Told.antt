@@ -1,5 +1,5 @@
 -- What an object of the outside tells of itself, and its count of faults. The rules are this project's own.
-use Rattle.std.specs.Prelude.{◌≡◌, ℕ, zero, suc, ◌+◌, ◌-◌, ◌^◌, ◌<◌, ◌≤◌, ◌↔◌, List, [], ◌∷◌, ◌++◌, length, take, drop, min, Option, Some, None, IfSome, option_map}
+use Rattle.std.specs.Prelude.{◌≡◌, ℕ, ◌+◌, ◌-◌, ◌^◌, ◌≤◌, ◌↔◌, List, [], ◌++◌, length, take, drop, min, Option, Some, None, option_map}
 
 -- what is told of a file: nothing, that no file has the name, or its bytes
 pub data Told : Type 0 where

@@ -1,5 +1,5 @@
 -- Lengths of two parts, as in VS Code's bracketPairsTree: line ends, and the characters behind the last.
-use Rattle.std.specs.Prelude.{◌≡◌, ℕ, ◌+◌, ◌<◌, ◌==◌, ◌⊎◌, if◌then◌else◌}
+use Rattle.std.specs.Prelude.{◌≡◌, ◌+◌, ◌<◌, ◌==◌, ◌⊎◌, if◌then◌else◌}
 use Rattle.text_pos.specs.declared.length.Length.{Length}
 
 -- a piece and the piece behind it: a line end in the second begins its columns anew

@@ -1,0 +1,20 @@
+/// Why a script line is refused, in the order of the tests.
+#[derive(Clone, Copy, Debug, PartialEq, Eq)]
+pub enum Refusal {
+    /// The line has more than 1,048,576 bytes.
+    Long,
+    /// The line is no JSON text, or nests deeper than 127.
+    Json,
+    /// The JSON text is no command.
+    Command,
+    /// An edit's places aren't there, or its end is before its start.
+    Range,
+    /// An edit starts before the end of the one before it.
+    Order,
+    /// The text would have too many characters.
+    Chars,
+    /// The text would have too many lines.
+    Lines,
+    /// A question's lines aren't there.
+    Line,
+}

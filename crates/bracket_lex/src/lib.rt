@@ -1,0 +1,19 @@
+//! The marks of a line, and the pairing of a text's marks by one stack.
+#![tactic(auto)]
+
+pub mod brackets;
+pub mod line_marks;
+pub mod mark_lines;
+mod open_marks;
+pub mod paired;
+mod partners;
+mod text_marks;
+
+pub use brackets::Brackets;
+pub use line_marks::LineMarks;
+pub use mark_lines::MarkLines;
+pub use paired::Paired;
+pub use pairing_defs::{BracketText, LineMark, Mark, Role, Row};
+
+#[cfg(test)]
+mod tests;

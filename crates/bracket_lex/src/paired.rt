@@ -1,0 +1,46 @@
+ghost use Rattle.std.specs.Prelude.{◌≡◌, ◌<◌, ◌^◌, List, length, IfOk};
+ghost use Rattle.pairing_defs.specs.declared.Row.{Row};
+ghost use Rattle.pairing_defs.specs.Pairing.{paired};
+ghost use Rattle.bracket_lex.specs.MarkedLine.{MarkedLine, marks_in};
+
+use crate::mark_lines::MarkLines;
+use crate::open_marks::OpenMarks;
+use crate::partners::finish;
+use pairing_defs::Row;
+use std::alloc::{AllocError, Global};
+use std::marker::Model;
+use text_pos::Pos;
+
+/// The rows of a text's marks, in order.
+#[derive(Debug, Drop)]
+pub struct Paired {
+    rows: Vec<Row>,
+}
+
+impl Model for Paired {
+    ghost Value = { List Row };
+
+    ghost view = { λ p. p.rows.items };
+}
+
+impl Paired {
+    /// Pairs the marks of a text that ends at `end`, where at most `limit` brackets may be open at once.
+    pub fn of(alloc: Global, lines: &MarkLines, end: Pos, limit: u32) -> Result<Paired, AllocError>
+        requires { length (marks_in lines.now) < 2 ^ 32 }
+        ensures { IfOk result (λ p. p ≡ paired limit end (marks_in lines.now)) }
+    {
+        let mut open_marks = OpenMarks::new(alloc, limit);
+        for (n, line) in lines.as_slice().iter().enumerate() {
+            open_marks.take_line(n as u32, line.marks())?;
+        }
+        let mut rows = open_marks.into_rows();
+        finish(alloc, &mut rows, end)?;
+        Ok(Paired { rows })
+    }
+
+    pub fn rows(&self) -> &[Row]
+        ensures { result.now ≡ self.now }
+    {
+        &self.rows
+    }
+}

@@ -1,0 +1,98 @@
+-- Worked examples of marks and of pairing, each named by what it shows.
+use Rattle.std.specs.Prelude.{◌≡◌, ℕ, ◌-◌, List, [], ◌∷◌, length, map, codes, Option, Some, None, refl}
+use Rattle.pairing_defs.specs.declared.Role.TheVariants.{Opener, Closer}
+use Rattle.pairing_defs.specs.declared.BracketText.{BracketText}
+use Rattle.pairing_defs.specs.declared.LineMark.{LineMark}
+use Rattle.pairing_defs.specs.declared.Row.{Row}
+use Rattle.pairing_defs.specs.Marks.{usual_texts, marks_of, text_marks}
+use Rattle.pairing_defs.specs.Pairing.{paired}
+
+-- a row's line, first column, the column behind its last, level, kind level and colour
+abbrev pub shown : Row → List ℕ
+shown r = r.mark.at.line ∷ r.mark.at.col ∷ r.mark.to ∷ r.level ∷ r.own ∷ r.colour ∷ []
+
+abbrev pub last_length : List (List ℕ) → ℕ
+last_length [] = 0
+last_length (line ∷ []) = length line
+last_length (line ∷ next ∷ rest) = last_length (next ∷ rest)
+
+-- the rows of lines with the usual brackets, at a nesting limit
+abbrev pub rows_at : ℕ → List (List ℕ) → List Row
+rows_at limit lines = paired limit (record { line = length lines - 1; col = last_length lines }) (text_marks usual_texts 20000 lines)
+
+abbrev pub shown_at : ℕ → List (List ℕ) → List (List ℕ)
+shown_at limit lines = map shown (rows_at limit lines)
+
+-- a mark's first column and the column behind its last
+abbrev pub columns : LineMark → ℕ × ℕ
+columns m = (m.from, m.to)
+
+-- a row's level and kind level
+abbrev pub levels : Row → ℕ × ℕ
+levels r = (r.level, r.own)
+
+-- a row's partner, and the column where its inside ends
+abbrev pub ends : Row → Option ℕ × ℕ
+ends r = (r.partner, r.inner.col)
+
+-- a row's level and partner
+abbrev pub pairs : Row → ℕ × Option ℕ
+pairs r = (r.level, r.partner)
+
+pub the_closer_takes_the_last_opener_of_its_kind : shown_at 200 (codes "([)]" ∷ [])
+    ≡ (0 ∷ 0 ∷ 1 ∷ 0 ∷ 0 ∷ 0 ∷ []) ∷ (0 ∷ 1 ∷ 2 ∷ 1 ∷ 0 ∷ 6 ∷ []) ∷ (0 ∷ 2 ∷ 3 ∷ 0 ∷ 0 ∷ 0 ∷ []) ∷ (0 ∷ 3 ∷ 4 ∷ 0 ∷ 0 ∷ 6 ∷ []) ∷ []
+the_closer_takes_the_last_opener_of_its_kind = refl
+
+pub a_closer_of_nothing_open_is_unexpected : shown_at 200 ([] ∷ codes "a ) b" ∷ []) ≡ (1 ∷ 2 ∷ 3 ∷ 0 ∷ 0 ∷ 6 ∷ []) ∷ []
+a_closer_of_nothing_open_is_unexpected = refl
+
+-- the last closer is unexpected, since the opener at the limit was none
+pub an_opener_at_the_limit_is_text : shown_at 2 (codes "((()))" ∷ [])
+    ≡ (0 ∷ 0 ∷ 1 ∷ 0 ∷ 0 ∷ 0 ∷ []) ∷ (0 ∷ 1 ∷ 2 ∷ 1 ∷ 1 ∷ 1 ∷ []) ∷ (0 ∷ 3 ∷ 4 ∷ 1 ∷ 1 ∷ 1 ∷ []) ∷ (0 ∷ 4 ∷ 5 ∷ 0 ∷ 0 ∷ 0 ∷ []) ∷ (0 ∷ 5 ∷ 6 ∷ 0 ∷ 0 ∷ 6 ∷ []) ∷ []
+an_opener_at_the_limit_is_text = refl
+
+pub a_closer_of_another_kind_is_unexpected_at_the_level_there : shown_at 200 (codes "(]" ∷ []) ≡ (0 ∷ 0 ∷ 1 ∷ 0 ∷ 0 ∷ 6 ∷ []) ∷ (0 ∷ 1 ∷ 2 ∷ 1 ∷ 0 ∷ 6 ∷ []) ∷ []
+a_closer_of_another_kind_is_unexpected_at_the_level_there = refl
+
+pub the_kind_level_counts_its_own_kind : map levels (rows_at 200 (codes "([(" ∷ [])) ≡ (0, 0) ∷ (1, 0) ∷ (2, 1) ∷ []
+the_kind_level_counts_its_own_kind = refl
+
+pub colours_begin_anew_at_level_six : map (λ r. r.colour) (rows_at 200 (codes "((((((()))))))" ∷ []))
+    ≡ 0 ∷ 1 ∷ 2 ∷ 3 ∷ 4 ∷ 5 ∷ 0 ∷ 0 ∷ 5 ∷ 4 ∷ 3 ∷ 2 ∷ 1 ∷ 0 ∷ []
+colours_begin_anew_at_level_six = refl
+
+pub partners_are_numbers_of_rows : map (λ r. r.partner) (rows_at 200 (codes ")()" ∷ [])) ≡ None ∷ Some 2 ∷ Some 1 ∷ []
+partners_are_numbers_of_rows = refl
+
+-- both stay without partner, and their insides end where the closer starts
+pub a_closer_removes_the_openers_behind_its_own : map ends (rows_at 200 (codes "([{)" ∷ []))
+    ≡ (Some 3, 3) ∷ (None, 3) ∷ (None, 3) ∷ (Some 0, 3) ∷ []
+a_closer_removes_the_openers_behind_its_own = refl
+
+pub an_opener_that_nothing_removes_ends_with_the_text : map (λ r. r.inner) (rows_at 200 (codes "(" ∷ codes "ab" ∷ [])) ≡ record { line = 1; col = 2 } ∷ []
+an_opener_that_nothing_removes_ends_with_the_text = refl
+
+pub letters_are_no_marks : map columns (marks_of usual_texts 20000 (codes "f(x)[0]")) ≡ (1, 2) ∷ (3, 4) ∷ (4, 5) ∷ (6, 7) ∷ []
+letters_are_no_marks = refl
+
+pub a_long_line_has_no_marks : marks_of usual_texts 3 (codes "()a") ≡ []
+a_long_line_has_no_marks = refl
+
+pub a_line_below_the_limit_has_marks : map columns (marks_of usual_texts 4 (codes "()a")) ≡ (0, 1) ∷ (1, 2) ∷ []
+a_line_below_the_limit_has_marks = refl
+
+-- texts of one and two characters, with two that are equal
+abbrev pub odd_texts : List BracketText
+odd_texts = record { text = codes "<"; role = Opener 0 } ∷ record { text = codes "<<"; role = Opener 1 } ∷ record { text = codes "<<"; role = Opener 2 }
+    ∷ record { text = codes "end"; role = Closer (record { bits = 3 }) } ∷ []
+
+pub the_longest_text_is_the_mark : map columns (marks_of odd_texts 20000 (codes "<<<")) ≡ (0, 2) ∷ (2, 3) ∷ []
+the_longest_text_is_the_mark = refl
+
+pub the_first_of_equal_texts_is_the_mark : map (λ m. m.role) (marks_of odd_texts 20000 (codes "<<")) ≡ Opener 1 ∷ []
+the_first_of_equal_texts_is_the_mark = refl
+
+-- "end" closes kinds 0 and 1
+pub a_closer_of_two_kinds_takes_the_last_of_either : map pairs (paired 200 (record { line = 0; col = 9 }) (text_marks odd_texts 20000 (codes "< <<endend" ∷ [])))
+    ≡ (0, Some 3) ∷ (1, Some 2) ∷ (1, Some 1) ∷ (0, Some 0) ∷ []
+a_closer_of_two_kinds_takes_the_last_of_either = refl

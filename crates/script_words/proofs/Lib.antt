@@ -1,0 +1,3 @@
+mod DataLemmas
+mod EditLemmas
+mod ReplyLemmas

@@ -1,0 +1,10 @@
+//! Script lines read as commands, and replies written as lines.
+#![tactic(auto)]
+
+pub mod command;
+pub mod reply;
+
+pub use answer_defs::{Answer, BracketRow, MarkAt, Question, Refusal, Rows};
+pub use command::{Command, CommandRefusal};
+pub use line_text::{Edit, Edits};
+pub use reply::Reply;

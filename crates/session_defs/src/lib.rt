@@ -1,0 +1,2 @@
+//! A session from its first line to its last, and all that the program writes: definitions alone.
+#![tactic(auto)]
