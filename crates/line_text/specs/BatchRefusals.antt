@@ -1,4 +1,4 @@
--- How the answers of a batch stand for the causes of its refusal.
+-- How the answers of a batch stand for the causes of its refusal, which are this project's own.
 use Rattle.std.specs.Prelude.{◌≡◌, Option, Some}
 use Rattle.text_defs.specs.Batch.{BatchRefusal, range, order, too_many_chars, too_many_lines}
 use Rattle.line_text.specs.declared.edit.EditRefusal.{EditRefusal}

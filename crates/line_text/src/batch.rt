@@ -39,7 +39,7 @@ impl Text {
         self.holds(span.from) && self.holds(span.to) && !is_before(span.to, span.from)
     }
 
-    /// Whether each edit is in range and in order.
+    /// Whether each edit is in range and in order; else what is wrong with the first that isn't.
     fn check_edits(&self, edits: &[Edit]) -> Result<(), EditRefusal>
         ensures ok { OnOk result (edit_fault self.now None 0 edits.now ≡ None) }
         ensures refused { IfErr result (HasCause (edit_fault self.now None 0 edits.now)) }
@@ -171,7 +171,7 @@ impl Text {
         Ok(carry)
     }
 
-    /// The text after a batch of edits, and the lines that it carries.
+    /// The text after a batch of edits, and the lines that it carries. Both texts share those lines.
     ///
     /// All spans are places of this text, and all are replaced at once.
     pub fn edited(&self, alloc: Global, edits: &[Edit]) -> Result<Edited, EditRefusal>
