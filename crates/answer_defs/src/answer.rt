@@ -4,7 +4,8 @@ use std::alloc::{AllocError, Global};
 use std::marker::Model;
 use text_pos::Chars;
 
-/// What can be asked of a text. Lines count from 0, and `to` is the last line of a range.
+/// What can be asked of a text. Lines count from 0, and `to` is the last line of a range. The questions are
+/// this project's own.
 #[derive(Clone, Copy, Debug, PartialEq, Eq)]
 pub enum Question {
     /// The rows of these lines.
@@ -21,7 +22,8 @@ pub struct MarkAt {
     pub to: u32,
 }
 
-/// A bracket as it is answered. `own` is its kind level.
+/// A bracket as it is answered: its place, how many brackets are open around it, how many of these are of its
+/// kind (`own`), and the number of its colour. The form is this project's own.
 #[derive(Clone, Copy, Debug, PartialEq, Eq)]
 pub struct BracketRow {
     pub at: MarkAt,
@@ -69,8 +71,11 @@ impl Rows {
     }
 }
 
+/// What is answered to a question. The answers are this project's own.
 #[derive(Debug, Drop)]
 pub enum Answer {
+    /// The brackets of the lines that were asked for.
     Brackets(Rows),
+    /// The characters of the line.
     Line(Chars),
 }

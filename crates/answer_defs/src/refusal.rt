@@ -1,9 +1,9 @@
-/// Why a script line is refused, in the order of the tests.
+/// Why a script line is refused, in the order of the tests. The causes are this project's own.
 #[derive(Clone, Copy, Debug, PartialEq, Eq)]
 pub enum Refusal {
     /// The line has more than 1,048,576 bytes.
     Long,
-    /// The line is no JSON text, or nests deeper than 127.
+    /// The line isn't UTF-8, or no JSON text, or nests deeper than 127.
     Json,
     /// The JSON text is no command.
     Command,
@@ -15,6 +15,6 @@ pub enum Refusal {
     Chars,
     /// The text would have too many lines.
     Lines,
-    /// A question's lines aren't there.
+    /// A question's lines aren't there, aren't in order, or are more than 4,096.
     Line,
 }

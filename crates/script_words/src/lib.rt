@@ -8,3 +8,6 @@ pub use answer_defs::{Answer, BracketRow, MarkAt, Question, Refusal, Rows};
 pub use command::{Command, CommandRefusal};
 pub use line_text::{Edit, Edits};
 pub use reply::Reply;
+
+#[cfg(test)]
+mod tests;

@@ -8,7 +8,7 @@ use serde_json::{Value, json};
 use std::alloc::{AllocError, Global};
 use text_pos::Bytes;
 
-/// What is written for a script line, and before the first.
+/// What is written for a script line, and before the first. The replies are this project's own.
 #[derive(Debug, Drop)]
 pub enum Reply {
     /// How many lines the text has, and how many patterns of the grammar weren't read.
