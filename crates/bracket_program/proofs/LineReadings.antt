@@ -29,11 +29,11 @@ given-lines (line ∷ next ∷ later) = ap (λ cuts. cut_of line ∷ cuts) (give
 
 -- while more may come, the whole lines are handed out
 pub readings_given-going : (cuts : List Cut) (ended : Bool) (bytes : List ℕ) → cuts ≡ cuts_of bytes → ended ≡ false
-  → map cut_reading (lines_given cuts ended) ≡ map reading_of (whole_lines bytes)
+    → map cut_reading (lines_given cuts ended) ≡ map reading_of (whole_lines bytes)
 readings_given-going cuts ended bytes e f =
-  ap (λ cs. map cut_reading (lines_given cs ended)) e
-  ∙ (ap (λ b. map cut_reading (lines_given (cuts_of bytes) b)) f
-  ∙ (ap (map cut_reading) (given-lines (lines_of bytes)) ∙ readings_of_cuts (whole_lines bytes)))
+    ap (λ cs. map cut_reading (lines_given cs ended)) e
+    ∙ (ap (λ b. map cut_reading (lines_given (cuts_of bytes) b)) f
+    ∙ (ap (map cut_reading) (given-lines (lines_of bytes)) ∙ readings_of_cuts (whole_lines bytes)))
 
 last_given-by : (b : Bool) (c : ℕ) (line : List ℕ) → last_given (if b then TooLong else Line (c ∷ line)) true ≡ (if b then TooLong else Line (c ∷ line)) ∷ []
 last_given-by true c line = refl
@@ -45,11 +45,11 @@ last_given-line (c ∷ line) = last_given-by (nat_lt most_in_line (length (c ∷
 
 -- when nothing more comes, the unfinished line is handed out too
 pub readings_given-ended : (cuts : List Cut) (ended : Bool) (script : List ℕ) → cuts ≡ cuts_of (unfinished script) → ended ≡ true
-  → map cut_reading (lines_given cuts ended) ≡ map reading_of (line_if_any (unfinished script))
+    → map cut_reading (lines_given cuts ended) ≡ map reading_of (line_if_any (unfinished script))
 readings_given-ended cuts ended script e f =
-  ap (λ cs. map cut_reading (lines_given cs ended)) (e ∙ ap (map cut_of) (unfinished-line script))
-  ∙ (ap (λ b. map cut_reading (lines_given (cut_of (unfinished script) ∷ []) b)) f
-  ∙ (ap (map cut_reading) (last_given-line (unfinished script)) ∙ readings_of_cuts (line_if_any (unfinished script))))
+    ap (λ cs. map cut_reading (lines_given cs ended)) (e ∙ ap (map cut_of) (unfinished-line script))
+    ∙ (ap (λ b. map cut_reading (lines_given (cut_of (unfinished script) ∷ []) b)) f
+    ∙ (ap (map cut_reading) (last_given-line (unfinished script)) ∙ readings_of_cuts (line_if_any (unfinished script))))
 
 last-lines : (lines : List (List ℕ)) (line : List ℕ) → last_of (map cut_of (line ∷ lines)) ≡ cut_of (last_line (line ∷ lines)) ∷ []
 last-lines [] line = refl
@@ -67,9 +67,9 @@ none-alone (x ∷ y ∷ later) e = cc
 
 -- what is left when each whole line was handed out
 pub pending-left : (cutter : Cutting) (before : List Cut) (script piece : List ℕ) → next_cut cutter ≡ None → cutter.ended ≡ false
-  → last_of cutter.cuts ≡ last_of before → before ≡ cuts_of (unfinished script ++ piece) → cutter.cuts ≡ cuts_of (unfinished (script ++ piece))
+    → last_of cutter.cuts ≡ last_of before → before ≡ cuts_of (unfinished script ++ piece) → cutter.cuts ≡ cuts_of (unfinished (script ++ piece))
 pending-left cutter before script piece n f l e =
-  let bytes = unfinished script ++ piece in
-  none-alone cutter.cuts (ap (first_cut cutter.cuts) (sym f) ∙ n)
-  ∙ (l ∙ (ap last_of e ∙ (last-some (lines_of bytes) (whole_lines bytes) (unfinished bytes) (lines_of-split bytes)
-  ∙ (ap (map cut_of) (sym (unfinished-line bytes)) ∙ ap cuts_of (sym (unfinished-append script piece))))))
+    let bytes = unfinished script ++ piece in
+    none-alone cutter.cuts (ap (first_cut cutter.cuts) (sym f) ∙ n)
+    ∙ (l ∙ (ap last_of e ∙ (last-some (lines_of bytes) (whole_lines bytes) (unfinished bytes) (lines_of-split bytes)
+    ∙ (ap (map cut_of) (sym (unfinished-line bytes)) ∙ ap cuts_of (sym (unfinished-append script piece))))))

@@ -35,12 +35,12 @@ no_nesting false option false n name h = refl
 
 -- the fourth word is no nesting limit
 pub no_request-number : (words : List (String Global)) (number : String Global) (digits : List ℕ) → 4 ≤ length words → length words < 5
-  → number ≡ get_or words 3 number → digits ≡ string_bytes number → None ≡ (if is_nesting digits then Some (value_of digits) else None) → None ≡ requests words
+    → number ≡ get_or words 3 number → digits ≡ string_bytes number → None ≡ (if is_nesting digits then Some (value_of digits) else None) → None ≡ requests words
 no_request-number [] number digits h k is d none = absurd (omega arith)
 no_request-number (a ∷ []) number digits h k is d none = absurd (omega arith)
 no_request-number (a ∷ b ∷ []) number digits h k is d none = absurd (omega arith)
 no_request-number (a ∷ b ∷ c ∷ []) number digits h k is d none = absurd (omega arith)
 no_request-number (a ∷ b ∷ c ∷ e ∷ []) number digits h k is d none =
-  no_nesting _ _ (is_nesting (string_bytes e)) (value_of (string_bytes e)) (string_bytes b)
+    no_nesting _ _ (is_nesting (string_bytes e)) (value_of (string_bytes e)) (string_bytes b)
     (none ∙ ap (λ w. if is_nesting w then Some (value_of w) else None) (d ∙ ap string_bytes is))
 no_request-number (a ∷ b ∷ c ∷ e ∷ f ∷ more) number digits h k is d none = absurd (omega arith)

@@ -7,6 +7,8 @@ mod reply_lines;
 mod run;
 mod serve;
 mod status;
+#[cfg(test)]
+mod tests;
 mod words;
 
 ghost use Rattle.std.specs.Prelude.{◌≡◌, ◌<◌};
@@ -14,12 +16,11 @@ ghost use Rattle.std.specs.Prelude.{◌≡◌, ◌<◌};
 use crate::adapters::{FileStore, InFeed, OutFeed};
 use crate::run::run;
 use crate::status::Status;
-use std::env;
-use std::io;
 use std::io::ErrorKind;
 use std::marker::Brand;
 use std::process::ExitCode;
 use std::sync::ledger::{Blank, Ledger};
+use std::{env, io};
 use step_count::Steps;
 
 fn main(rt: HostRuntime) -> ExitCode {

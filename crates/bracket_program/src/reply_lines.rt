@@ -94,11 +94,7 @@ fn respond(alloc: Global, document: &mut Document, cut: &Cut) -> Result<Reply, A
     }
 }
 
-fn obey(
-    alloc: Global,
-    document: &mut Document,
-    command: &Command,
-) -> Result<Reply, AllocError>
+fn obey(alloc: Global, document: &mut Document, command: &Command) -> Result<Reply, AllocError>
     ensures reply { IfOk result (λ r. r ≡ (command_step document.old.settings document.old.text command.now).reply) }
     ensures text { OnOk result (document.new.text ≡ (command_step document.old.settings document.old.text command.now).text) }
     ensures settings { document.new.settings ≡ document.old.settings }

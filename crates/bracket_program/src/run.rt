@@ -36,10 +36,10 @@ pub fn run<F: Files, S: Source, K: Sink, L: Ledger, M: Ledger>(
     ensures text_file { result ≡ Status.TextFile → IfSome (request_of (map string_bytes words.now)) (λ r. Refuses (F.contents files.old r.text)) }
     ensures read_fault { result ≡ Status.ReadFault → IfSome (request_of (map string_bytes words.now)) (λ r.
         ((risen (F.faults files.old r.text) ≤ F.faults files.new r.text)
-            × (S.left script.new ≡ S.left script.old) × (K.held sink.new ≡ K.held sink.old))
+        × (S.left script.new ≡ S.left script.old) × (K.held sink.new ≡ K.held sink.old))
         ⊎ ((risen (S.faults script.old) ≤ S.faults script.new) × AnswersTaken (F.contents files.old)
-            (outside (S.left script.old) (K.held sink.old) (S.faults script.old) (K.faults sink.old))
-            (outside (S.left script.new) (K.held sink.new) (S.faults script.new) (K.faults sink.new)) (λ _. ⊤) r)) }
+        (outside (S.left script.old) (K.held sink.old) (S.faults script.old) (K.faults sink.old))
+        (outside (S.left script.new) (K.held sink.new) (S.faults script.new) (K.faults sink.new)) (λ _. ⊤) r)) }
     ensures write_fault { result ≡ Status.WriteFault → risen (K.faults sink.old) ≤ K.faults sink.new }
     ensures script_full { result ≡ Status.ScriptFull → IfSome (request_of (map string_bytes words.now)) (AnswersTaken (F.contents files.old)
         (outside (S.left script.old) (K.held sink.old) (S.faults script.old) (K.faults sink.old))
@@ -48,15 +48,15 @@ pub fn run<F: Files, S: Source, K: Sink, L: Ledger, M: Ledger>(
         → (S.left script.new ≡ S.left script.old) × (K.held sink.new ≡ K.held sink.old) }
     ensures front { (result ≡ Status.WriteFault) ⊎ (result ≡ Status.Memory)
         → IfSome (request_of (map string_bytes words.now)) (WritesSome (F.contents files.old)
-            (outside (S.left script.old) (K.held sink.old) (S.faults script.old) (K.faults sink.old))
-            (outside (S.left script.new) (K.held sink.new) (S.faults script.new) (K.faults sink.new))) }
+        (outside (S.left script.old) (K.held sink.old) (S.faults script.old) (K.faults sink.old))
+        (outside (S.left script.new) (K.held sink.new) (S.faults script.new) (K.faults sink.new))) }
 
     // When it succeeds, and when each refusal has to come.
     ensures completes { IfSome (request_of (map string_bytes words.now)) (λ r. (file bytes : List ℕ) → F.contents files.old r.text ≡ Holds file
         → is_accepted file ≡ true → S.left script.old ≡ Some bytes → length bytes < most_script_bytes
         → AllStand (F.faults files.old) (F.faults files.new)
-            (outside (S.left script.old) (K.held sink.old) (S.faults script.old) (K.faults sink.old))
-            (outside (S.left script.new) (K.held sink.new) (S.faults script.new) (K.faults sink.new)) r
+        (outside (S.left script.old) (K.held sink.old) (S.faults script.old) (K.faults sink.old))
+        (outside (S.left script.new) (K.held sink.new) (S.faults script.new) (K.faults sink.new)) r
         → (result ≡ Status.Done) ⊎ (result ≡ Status.Memory)) }
     ensures refuses { IfSome (request_of (map string_bytes words.now)) (λ r. (file : List ℕ) → F.contents files.old r.text ≡ Holds file
         → is_accepted file ≡ false → Stands (F.faults files.old r.text) (F.faults files.new r.text)
@@ -64,8 +64,8 @@ pub fn run<F: Files, S: Source, K: Sink, L: Ledger, M: Ledger>(
     ensures fills { IfSome (request_of (map string_bytes words.now)) (λ r. (file bytes : List ℕ) → F.contents files.old r.text ≡ Holds file
         → is_accepted file ≡ true → S.left script.old ≡ Some bytes → most_script_bytes ≤ length bytes
         → AllStand (F.faults files.old) (F.faults files.new)
-            (outside (S.left script.old) (K.held sink.old) (S.faults script.old) (K.faults sink.old))
-            (outside (S.left script.new) (K.held sink.new) (S.faults script.new) (K.faults sink.new)) r
+        (outside (S.left script.old) (K.held sink.old) (S.faults script.old) (K.faults sink.old))
+        (outside (S.left script.new) (K.held sink.new) (S.faults script.new) (K.faults sink.new)) r
         → (result ≡ Status.ScriptFull) ⊎ (result ≡ Status.Memory)) }
 
     // A fault ends the run.

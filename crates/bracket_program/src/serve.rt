@@ -89,5 +89,9 @@ fn room_for(taken: u64) -> usize
     ensures most { taken + result ≤ MOST_SCRIPT_BYTES }
 {
     let left = MOST_SCRIPT_BYTES - taken;
-    if left < PIECE as u64 { left as usize } else { PIECE }
+    if left < PIECE as u64 {
+        left as usize
+    } else {
+        PIECE
+    }
 }

@@ -12,13 +12,13 @@ invariant-loop-cut g l =
     let settings = l.fn.document.settings in
     record {
       writes : WritesUpTo (held l.fn.sink) (held l.sink)
-        (replies_to settings l.fn.document.text (map cut_reading (given l.fn.cutter)))
-        (replies_to settings l.document.text (map cut_reading (given l.cutter)));
+          (replies_to settings l.fn.document.text (map cut_reading (given l.fn.cutter)))
+          (replies_to settings l.document.text (map cut_reading (given l.cutter)));
       text : text_behind settings l.document.text (map cut_reading (given l.cutter)) ≡ text_behind settings l.fn.document.text (map cut_reading (given l.fn.cutter));
       settings : l.document.settings ≡ settings;
       counts : faults l.sink ≡ faults l.fn.sink;
       ended : l.cutter.ended ≡ l.fn.cutter.ended;
-      unfinished : l.fn.cutter.ended ≡ false → last_of l.cutter.cuts ≡ last_of l.fn.cutter.cuts
+      unfinished : l.fn.cutter.ended ≡ false → last_of l.cutter.cuts ≡ last_of l.fn.cutter.cuts;
     }
 
 abbrev pub decreases-loop-cut : goal.decreases-loop-cut

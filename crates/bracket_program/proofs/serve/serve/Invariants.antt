@@ -13,10 +13,10 @@ invariant-loop-taken g l =
     let writes = g.K.Sink.faults in
     record {
       serving : Serving (outside (left l.fn.script) (held l.fn.sink) (reads l.fn.script) (writes l.fn.sink))
-        (outside (left l.script) (held l.sink) (reads l.script) (writes l.sink))
-        l.fn.document.settings l.fn.document.text l.document.text l.cutter l.taken;
+          (outside (left l.script) (held l.sink) (reads l.script) (writes l.sink))
+          l.fn.document.settings l.fn.document.text l.document.text l.cutter l.taken;
       settings : l.document.settings ≡ l.fn.document.settings;
-      few : l.taken ≤ most_script_bytes
+      few : l.taken ≤ most_script_bytes;
     }
 
 abbrev pub decreases-loop-taken : goal.decreases-loop-taken

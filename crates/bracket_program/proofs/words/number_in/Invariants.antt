@@ -8,5 +8,5 @@ abbrev pub invariant-loop-c : goal.invariant-loop-c
 invariant-loop-c l = record {
   digits : list_all is_digit (take l.c-index l.word) ≡ true;
   number : l.value ≡ value_of (take l.c-index l.word);
-  small : l.value < 10 ^ l.c-index
+  small : l.value < 10 ^ l.c-index;
 }

@@ -1,0 +1,379 @@
+ghost use Rattle.std.specs.Prelude.{◌≡◌, ◌<◌, None};
+
+use crate::run::run;
+use crate::status::Status;
+use piece_io::{Failed, MemFiles, MemSink, MemSource, Sink, Source};
+use std::alloc::{AllocError, Global};
+use std::marker::Brand;
+use std::sync::ledger::{Blank, Ledger};
+use std::test::Fail;
+use step_count::Steps;
+
+/// A run in memory: the words behind the program's name, the bytes of the file `text`, where there is one,
+/// and the script; and what it must write, and its status.
+#[derive(Drop)]
+struct Case<'a> {
+    words: &'a [&'a str],
+    text: Option<&'a [u8]>,
+    script: &'a [u8],
+    wrote: &'a [u8],
+    status: Status,
+}
+
+/// The status, and the sink with what was written.
+fn run_case(
+    alloc: Global,
+    case: &Case,
+    failing_reads: &[u32],
+    failing_writes: &[u32],
+) -> Result<(Status, MemSink), AllocError> {
+    let mut script = MemSource::new(alloc, case.script, 65_536, failing_reads)?;
+    let mut sink = MemSink::new(alloc, 1 << 20, 65_536, failing_writes)?;
+    let status = run_over(alloc, case.words, case.text, &mut script, &mut sink)?;
+    Ok((status, sink))
+}
+
+fn run_over<S: Source, K: Sink>(
+    alloc: Global,
+    words: &[&str],
+    text: Option<&[u8]>,
+    script: &mut S,
+    sink: &mut K,
+) -> Result<Status, AllocError> {
+    let mut files = MemFiles::new(alloc, &[])?;
+    if let Some(bytes) = text {
+        files.put("text", bytes)?;
+    }
+    let mut named = Vec::new(alloc);
+    named.push(String::from_str(alloc, "brackets")?)?;
+    for word in words {
+        named.push(String::from_str(alloc, word)?)?;
+    }
+    let words = named.as_slice();
+    let (steps, marks) = (Blank::new(1), Blank::new(1));
+    let status = run_counted::<Brand, Brand, S, K>(
+        alloc, words, &mut files, script, sink, steps, marks,
+    );
+    Ok(status)
+}
+
+fn run_counted<L: Ledger, M: Ledger, S: Source, K: Sink>(
+    alloc: Global,
+    words: &[String],
+    files: &mut MemFiles,
+    script: &mut S,
+    sink: &mut K,
+    steps: Blank,
+    marks: Blank,
+) -> Status
+    requires steps_name { steps.name ≡ L.name }
+    requires steps_parts { steps.parts ≡ L.parts }
+    requires steps_some { 0 < steps.parts }
+    requires marks_name { marks.name ≡ M.name }
+    requires marks_parts { marks.parts ≡ M.parts }
+    requires marks_some { 0 < marks.parts }
+{
+    let mut steps = Steps::<L>::begin(steps);
+    let mut marks = Steps::<M>::begin(marks);
+    run(alloc, words, files, script, sink, &mut steps, &mut marks)
+}
+
+const CASES: [Case<'static>; 17] = [
+    // An empty file is one empty line.
+    Case {
+        words: &["text"],
+        text: Some(b""),
+        script: b"{\"brackets\":[0,0]}\n",
+        wrote: b"{\"opened\":1,\"unread\":0}\n{\"brackets\":[]}\n",
+        status: Status::Done,
+    },
+    // A closer takes the last opener of its kind, and the last line needs no LF.
+    Case {
+        words: &["text"],
+        text: Some(b"([)]"),
+        script: b"{\"brackets\":[0,0]}",
+        wrote: b"{\"opened\":1,\"unread\":0}\n{\"brackets\":[[0,0,1,0,0,0],[0,1,2,1,0,6],[0,2,3,0,0,0],[0,3,4,0,0,6]]}\n",
+        status: Status::Done,
+    },
+    // An edit gives an unexpected closer of a later line its opener.
+    Case {
+        words: &["text"],
+        text: Some(b"\na ) b"),
+        script: b"{\"brackets\":[0,1]}\n{\"edit\":[[0,0,0,0,\"(\"]]}\n{\"brackets\":[0,1]}\n",
+        wrote: b"{\"opened\":2,\"unread\":0}\n{\"brackets\":[[1,2,3,0,0,6]]}\n{\"edited\":2}\n{\"brackets\":[[0,0,1,0,0,0],[1,2,3,0,0,0]]}\n",
+        status: Status::Done,
+    },
+    // Openers at the nesting limit are text; both spans of a batch are places of the text before it.
+    Case {
+        words: &["text", "--nesting", "2"],
+        text: Some(b"((()))"),
+        script: b"{\"brackets\":[0,0]}\n{\"edit\":[[0,0,0,0,\"[\"],[0,6,0,6,\"]\"]]}\n{\"brackets\":[0,0]}\n",
+        wrote: b"{\"opened\":1,\"unread\":0}\n{\"brackets\":[[0,0,1,0,0,0],[0,1,2,1,1,1],[0,3,4,1,1,1],[0,4,5,0,0,0],[0,5,6,0,0,6]]}\n{\"edited\":1}\n{\"brackets\":[[0,0,1,0,0,0],[0,1,2,1,0,1],[0,4,5,1,0,1],[0,5,6,1,0,6],[0,6,7,1,0,6],[0,7,8,0,0,0]]}\n",
+        status: Status::Done,
+    },
+    // A refused batch changes nothing, not even by its first edits.
+    Case {
+        words: &["text"],
+        text: Some(b"abc"),
+        script: b"{\"edit\":[[0,0,0,1,\"x\"],[0,2,0,3,\"yy\"]]}\n{\"line\":0}\n{\"edit\":[[0,2,0,3,\"q\"],[0,0,0,1,\"q\"]]}\n{\"line\":0}\n{\"edit\":[[0,9,0,9,\"q\"]]}\n{\"turn\":262144}\n",
+        wrote: b"{\"opened\":1,\"unread\":0}\n{\"edited\":1}\n{\"line\":\"xbyy\"}\n{\"refused\":\"order\"}\n{\"line\":\"xbyy\"}\n{\"refused\":\"range\"}\n{\"turned\":true}\n",
+        status: Status::Done,
+    },
+    // CR LF, CR and LF end lines.
+    Case {
+        words: &["text"],
+        text: Some(b"a\r\nb\rc\nd"),
+        script: b"{\"line\":1}\n",
+        wrote: b"{\"opened\":4,\"unread\":0}\n{\"line\":\"b\"}\n",
+        status: Status::Done,
+    },
+    // Each refusal word by its cause.
+    Case {
+        words: &["text"],
+        text: Some(b"a"),
+        script: b"x\n\n[]\n{\"turn\":0}\n{\"level\":[0,-1]}\n{\"line\":1}\n{\"brackets\":[0,1]}\n{\"line\":0}\n",
+        wrote: b"{\"opened\":1,\"unread\":0}\n{\"refused\":\"json\"}\n{\"refused\":\"json\"}\n{\"refused\":\"command\"}\n{\"refused\":\"command\"}\n{\"refused\":\"command\"}\n{\"refused\":\"line\"}\n{\"refused\":\"line\"}\n{\"line\":\"a\"}\n",
+        status: Status::Done,
+    },
+    // A file that is no UTF-8, and one that isn't there.
+    Case {
+        words: &["text"],
+        text: Some(b"\xff"),
+        script: b"{\"line\":0}\n",
+        wrote: b"",
+        status: Status::TextFile,
+    },
+    Case {
+        words: &["text"],
+        text: None,
+        script: b"{\"line\":0}\n",
+        wrote: b"",
+        status: Status::ReadFault,
+    },
+    // Words that are no command line.
+    Case {
+        words: &[],
+        text: Some(b"a"),
+        script: b"{\"line\":0}\n",
+        wrote: b"",
+        status: Status::Words,
+    },
+    Case {
+        words: &["text", "more"],
+        text: Some(b"a"),
+        script: b"{\"line\":0}\n",
+        wrote: b"",
+        status: Status::Words,
+    },
+    Case {
+        words: &["-text"],
+        text: Some(b"a"),
+        script: b"",
+        wrote: b"",
+        status: Status::Words,
+    },
+    Case {
+        words: &[""],
+        text: Some(b"a"),
+        script: b"",
+        wrote: b"",
+        status: Status::Words,
+    },
+    Case {
+        words: &["text", "--nesting", "301"],
+        text: Some(b"a"),
+        script: b"",
+        wrote: b"",
+        status: Status::Words,
+    },
+    Case {
+        words: &["text", "--nesting", "0"],
+        text: Some(b"a"),
+        script: b"",
+        wrote: b"",
+        status: Status::Words,
+    },
+    Case {
+        words: &["text", "--nesting", "2x"],
+        text: Some(b"a"),
+        script: b"",
+        wrote: b"",
+        status: Status::Words,
+    },
+    // Zeros in front of a number are read.
+    Case {
+        words: &["text", "--nesting", "0000000300"],
+        text: Some(b"a"),
+        script: b"",
+        wrote: b"{\"opened\":1,\"unread\":0}\n",
+        status: Status::Done,
+    },
+];
+
+#[test]
+fn sessions_have_the_worked_replies(rt: HostRuntime) -> Result<(), Fail> {
+    for (n, case) in CASES.iter().enumerate() {
+        let (status, sink) = run_case(rt.alloc(), case, &[], &[])?;
+        assert_eq!(rt; status, case.status, "case {n}");
+        assert_eq!(rt; sink.bytes(), case.wrote, "case {n}");
+    }
+    Ok(())
+}
+
+/// What is written where a read of the script or a write fails.
+#[test]
+fn faults_leave_whole_replies(rt: HostRuntime) -> Result<(), Fail> {
+    let case = Case {
+        words: &["text"],
+        text: Some(b"abc"),
+        script: b"{\"edit\":[[0,0,0,1,\"x\"],[0,2,0,3,\"yy\"]]}\n{\"line\":0}\n",
+        wrote: b"",
+        status: Status::Done,
+    };
+    let opened = b"{\"opened\":1,\"unread\":0}\n".as_slice();
+    let edited = b"{\"opened\":1,\"unread\":0}\n{\"edited\":1}\n".as_slice();
+    let all = b"{\"opened\":1,\"unread\":0}\n{\"edited\":1}\n{\"line\":\"xbyy\"}\n".as_slice();
+    let writes = [
+        (1, Status::WriteFault, b"".as_slice()),
+        (2, Status::WriteFault, opened),
+        (3, Status::WriteFault, edited),
+        (4, Status::Done, all),
+    ];
+    for (failing, status, wrote) in writes {
+        let (ended, sink) = run_case(rt.alloc(), &case, &[], &[failing])?;
+        assert_eq!(rt; ended, status, "write {failing}");
+        assert_eq!(rt; sink.bytes(), wrote, "write {failing}");
+    }
+    let reads = [
+        (1, Status::ReadFault, opened),
+        (2, Status::ReadFault, all),
+        (3, Status::Done, all),
+    ];
+    for (failing, status, wrote) in reads {
+        let (ended, sink) = run_case(rt.alloc(), &case, &[failing], &[])?;
+        assert_eq!(rt; ended, status, "read {failing}");
+        assert_eq!(rt; sink.bytes(), wrote, "read {failing}");
+    }
+    Ok(())
+}
+
+/// So many times the same bytes at the end.
+fn add_times(bytes: &mut Vec<u8>, part: &[u8], times: u32) -> Result<(), AllocError> {
+    for _ in 0..times {
+        bytes.extend_from_slice(part)?;
+    }
+    Ok(())
+}
+
+#[test]
+fn limits_of_lines_and_texts(rt: HostRuntime) -> Result<(), Fail> {
+    let alloc = rt.alloc();
+
+    // A line of 20,000 characters has no brackets, and one of 19,999 has.
+    let mut text = Vec::new(alloc);
+    add_times(&mut text, b"(", 1)?;
+    add_times(&mut text, b"a", 19_998)?;
+    add_times(&mut text, b"\n)", 1)?;
+    add_times(&mut text, b"a", 19_999)?;
+    let case = Case {
+        words: &["text"],
+        text: Some(&text),
+        script: b"{\"brackets\":[0,1]}\n",
+        wrote: b"",
+        status: Status::Done,
+    };
+    let (_, sink) = run_case(alloc, &case, &[], &[])?;
+    assert_eq!(rt;
+        sink.bytes(),
+        b"{\"opened\":2,\"unread\":0}\n{\"brackets\":[[0,0,1,0,0,6]]}\n".as_slice()
+    );
+
+    // A script line of 1,048,577 bytes is too long.
+    let mut script = Vec::new(alloc);
+    add_times(&mut script, b" ", 1_048_577)?;
+    add_times(&mut script, b"\n{\"line\":0}\n", 1)?;
+    let case = Case {
+        words: &["text"],
+        text: Some(b"a"),
+        script: &script,
+        wrote: b"",
+        status: Status::Done,
+    };
+    let (_, sink) = run_case(alloc, &case, &[], &[])?;
+    assert_eq!(rt;
+        sink.bytes(),
+        b"{\"opened\":1,\"unread\":0}\n{\"refused\":\"long\"}\n{\"line\":\"a\"}\n".as_slice()
+    );
+
+    // 2^18 lines, and one more.
+    let mut script = Vec::new(alloc);
+    add_times(&mut script, b"{\"edit\":[[0,0,0,0,\"", 1)?;
+    add_times(&mut script, b"\\n", 262_144)?;
+    add_times(&mut script, b"\"]]}\n{\"edit\":[[0,0,0,0,\"", 1)?;
+    add_times(&mut script, b"\\n", 262_143)?;
+    add_times(&mut script, b"\"]]}\n", 1)?;
+    let case = Case {
+        words: &["text"],
+        text: Some(b""),
+        script: &script,
+        wrote: b"",
+        status: Status::Done,
+    };
+    let (_, sink) = run_case(alloc, &case, &[], &[])?;
+    assert_eq!(rt;
+        sink.bytes(),
+        b"{\"opened\":1,\"unread\":0}\n{\"refused\":\"lines\"}\n{\"edited\":262144}\n".as_slice()
+    );
+
+    // 2^22 characters, and one more.
+    let mut text = Vec::new(alloc);
+    add_times(&mut text, b"a", 4_194_304)?;
+    let case = Case {
+        words: &["text"],
+        text: Some(&text),
+        script: b"{\"edit\":[[0,0,0,0,\"a\"]]}\n",
+        wrote: b"",
+        status: Status::Done,
+    };
+    let (_, sink) = run_case(alloc, &case, &[], &[])?;
+    assert_eq!(rt;
+        sink.bytes(),
+        b"{\"opened\":1,\"unread\":0}\n{\"refused\":\"chars\"}\n".as_slice()
+    );
+    add_times(&mut text, b"a", 1)?;
+    let case = Case {
+        words: &["text"],
+        text: Some(&text),
+        script: b"",
+        wrote: b"",
+        status: Status::TextFile,
+    };
+    let (status, sink) = run_case(alloc, &case, &[], &[])?;
+    assert_eq!(rt; status, Status::TextFile);
+    assert_eq!(rt; sink.bytes(), b"".as_slice());
+    Ok(())
+}
+
+/// A script of spaces that never ends, and that tells nothing.
+#[derive(Drop)]
+struct Spaces;
+
+impl Source for Spaces {
+    ghost left = { λ _. None };
+
+    ghost faults = { λ _. 0 };
+
+    fn read(&mut self, into: &mut [u8]) -> Result<usize, Failed> {
+        into.fill(b' ');
+        Ok(into.len())
+    }
+}
+
+#[test]
+fn endless_script_is_full(rt: HostRuntime) -> Result<(), Fail> {
+    let mut sink = MemSink::new(rt.alloc(), 1 << 20, 65_536, &[])?;
+    let status = run_over(rt.alloc(), &["text"], Some(b"a"), &mut Spaces, &mut sink)?;
+    assert_eq!(rt; status, Status::ScriptFull);
+    assert_eq!(rt; sink.bytes(), b"{\"opened\":1,\"unread\":0}\n".as_slice());
+    Ok(())
+}
