@@ -36,7 +36,8 @@ fn add_pair(
     closer: char,
 ) -> Result<(), AllocError>
     requires { kind < 64 }
-    ensures { OnOk result (texts.new.items ≡ texts.old.items ++ record { text = opener ∷ []; role = Role.Opener kind } ∷ record { text = closer ∷ []; role = Role.Closer (only kind) } ∷ []) }
+    ensures { OnOk result (texts.new.items ≡ texts.old.items ++ record { text = opener ∷ []; role = Role.Opener kind }
+        ∷ record { text = closer ∷ []; role = Role.Closer (only kind) } ∷ []) }
 {
     texts.push(BracketText {
         text: Chars::of(alloc, &[opener])?,
@@ -103,7 +104,8 @@ impl Brackets {
         requires inside { column < length line.now }
         requires short { length line.now < 2 ^ 32 }
         ensures bound { IfOk result (λ next. (column < next) × (next ≤ length line.now)) }
-        ensures marks { IfOk result (λ next. marks.new.items ++ marks_from self.now 0 next (drop next line.now) ≡ marks.old.items ++ marks_from self.now 0 column (drop column line.now)) }
+        ensures marks { IfOk result (λ next. marks.new.items ++ marks_from self.now 0 next (drop next line.now)
+            ≡ marks.old.items ++ marks_from self.now 0 column (drop column line.now)) }
     {
         match self.at_front(&line[column..]) {
             None => Ok(column + 1),

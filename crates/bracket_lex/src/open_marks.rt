@@ -56,7 +56,8 @@ fn count_of_kind(entries: &[OpenMark], kind: u32) -> usize
 /// The place of the last entry of one of the kinds.
 fn last_of_kinds(entries: &[OpenMark], kinds: Kinds) -> Option<usize>
     ensures { MatchOption result (from_last kinds (reverse entries.now) ≡ [])
-        (λ k. (k < length entries.now) × ((d : Entry) → from_last kinds (reverse entries.now) ≡ slice_index_or entries.now k d ∷ reverse (take k entries.now))) }
+        (λ k. (k < length entries.now) × ((d : Entry) → from_last kinds (reverse entries.now)
+        ≡ slice_index_or entries.now k d ∷ reverse (take k entries.now))) }
 {
     for k in (0..entries.len()).rev() {
         let entry = &entries[k];
@@ -96,8 +97,10 @@ impl OpenMarks {
     fn take_opener(&mut self, mark: Mark, kind: u32) -> Result<(), AllocError>
         requires { length self.old.rows + 1 < 2 ^ 32 }
         ensures limit { self.new.limit ≡ self.old.limit }
-        ensures rows { OnOk result (self.new.rows ≡ self.old.rows ++ opener_row self.old.limit (open_in self.old) mark kind) }
-        ensures entries { OnOk result (self.new.entries ≡ (after_opener self.old.limit (open_in self.old) kind).entries) }
+        ensures rows { OnOk result (self.new.rows ≡ self.old.rows
+            ++ opener_row self.old.limit (open_in self.old) mark kind) }
+        ensures entries { OnOk result (self.new.entries
+            ≡ (after_opener self.old.limit (open_in self.old) kind).entries) }
     {
         let level = self.entries.len();
         if level >= self.limit as usize {
@@ -115,8 +118,10 @@ impl OpenMarks {
     fn take_closer(&mut self, mark: Mark, kinds: Kinds) -> Result<(), AllocError>
         requires { length self.old.rows + 1 < 2 ^ 32 }
         ensures limit { self.new.limit ≡ self.old.limit }
-        ensures rows { OnOk result (self.new.rows ≡ self.old.rows ++ closer_row (open_in self.old) mark (from_last kinds self.old.entries) ∷ []) }
-        ensures entries { OnOk result (self.new.entries ≡ left_open self.old.entries (from_last kinds self.old.entries)) }
+        ensures rows { OnOk result (self.new.rows ≡ self.old.rows
+            ++ closer_row (open_in self.old) mark (from_last kinds self.old.entries) ∷ []) }
+        ensures entries { OnOk result (self.new.entries
+            ≡ left_open self.old.entries (from_last kinds self.old.entries)) }
     {
         match last_of_kinds(&self.entries, kinds) {
             None => {
@@ -138,8 +143,10 @@ impl OpenMarks {
     fn take(&mut self, mark: Mark) -> Result<(), AllocError>
         requires { length self.old.rows + 1 < 2 ^ 32 }
         ensures limit { self.new.limit ≡ self.old.limit }
-        ensures rows { OnOk result (self.new.rows ≡ self.old.rows ++ rows_by self.old.limit (open_in self.old) mark mark.role) }
-        ensures entries { OnOk result (open_in self.new ≡ open_by self.old.limit (open_in self.old) mark.role) }
+        ensures rows { OnOk result (self.new.rows ≡ self.old.rows
+            ++ rows_by self.old.limit (open_in self.old) mark mark.role) }
+        ensures entries { OnOk result (open_in self.new
+            ≡ open_by self.old.limit (open_in self.old) mark.role) }
     {
         match mark.role {
             Role::Opener(kind) => self.take_opener(mark, kind),
@@ -151,8 +158,10 @@ impl OpenMarks {
     pub(crate) fn take_line(&mut self, n: u32, marks: &[LineMark]) -> Result<(), AllocError>
         requires { length self.old.rows + length marks.now < 2 ^ 32 }
         ensures limit { self.new.limit ≡ self.old.limit }
-        ensures rows { OnOk result (self.new.rows ≡ self.old.rows ++ placed_from self.old.limit (open_in self.old) (map (placed n) marks.now)) }
-        ensures entries { OnOk result (open_in self.new ≡ open_after self.old.limit (open_in self.old) (map (placed n) marks.now)) }
+        ensures rows { OnOk result (self.new.rows ≡ self.old.rows
+            ++ placed_from self.old.limit (open_in self.old) (map (placed n) marks.now)) }
+        ensures entries { OnOk result (open_in self.new
+            ≡ open_after self.old.limit (open_in self.old) (map (placed n) marks.now)) }
         ensures bound { OnOk result (length self.new.rows ≤ length self.old.rows + length marks.now) }
     {
         for m in marks {

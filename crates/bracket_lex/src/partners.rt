@@ -29,7 +29,8 @@ impl Model for Closer {
 /// close a row behind n are of no use to the rows before n either, and leave it.
 fn closer_for(closers: &mut Vec<Closer>, n: u32) -> Option<Closer>
     ensures found { result ≡ first_for n (reverse closers.old.items) }
-    ensures others { (m : ℕ) → m ≤ n → first_for m (reverse closers.new.items) ≡ first_for m (reverse closers.old.items) }
+    ensures others { (m : ℕ) → m ≤ n
+        → first_for m (reverse closers.new.items) ≡ first_for m (reverse closers.old.items) }
 {
     while let Some(closer) = closers.last().copied() {
         if closer.closes <= n {
@@ -64,7 +65,8 @@ fn finished(row: &Row, n: u32, removal: Option<Closer>, end: Pos) -> Row
 
 /// Adds row n to the list, where it is that of a closer with a partner.
 fn add_closer(closers: &mut Vec<Closer>, n: u32, row: &Row) -> Result<(), AllocError>
-    ensures { OnOk result ((m : ℕ) → first_for m (reverse closers.new.items) ≡ removal_by m n (placed_of row.now) row.now.partner (first_for m (reverse closers.old.items))) }
+    ensures { OnOk result ((m : ℕ) → first_for m (reverse closers.new.items)
+        ≡ removal_by m n (placed_of row.now) row.now.partner (first_for m (reverse closers.old.items))) }
 {
     if let Some(closes) = row.partner {
         closers.push(Closer {

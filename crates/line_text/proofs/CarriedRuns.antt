@@ -1,8 +1,8 @@
 -- The runs that are found from span to span are the longest runs of the carried lines.
-use Rattle.std.proofs.Common.{◌≡◌, ℕ, zero, suc, ◌+◌, ◌-◌, ◌<◌, ◌≤◌, ◌⊎◌, inl, inr, List, [], ◌∷◌, ◌++◌, length, map, get_or, take, drop, Bool, true, false, not, ◌&&◌, ◌||◌, cond, eqb, ltb, leb, refl, ap, subst, sym, ◌∙◌, arith, append_assoc, add-one, add-zero, zero-add}
+use Rattle.std.proofs.Common.{◌≡◌, ℕ, zero, suc, ◌+◌, ◌-◌, ◌<◌, ◌≤◌, inl, inr, List, [], ◌∷◌, ◌++◌, length, map, get_or, drop, Bool, true, false, not, ◌&&◌, eqb, refl, ap, subst, sym, ◌∙◌, arith, append_assoc, add-zero, zero-add}
 use Rattle.std.specs.Prelude.{sum_by, filter, None}
 use Rattle.std.specs.List.{range_with_len}
-use Rattle.std.proofs.lemmas.Bool.{lt-ltb, le-ltb, le-leb, lt-leb, ltb-true, ltb-false, eq-eqb, ne_eqb, and_left, cases_Bool, cases_lt}
+use Rattle.std.proofs.lemmas.Bool.{lt-ltb, le-ltb, le-leb, lt-leb, eq-eqb, ne_eqb, cases_Bool, cases_lt}
 use Rattle.std.proofs.lemmas.List.{map-append, append-nil, drop_more}
 use Rattle.std.proofs.lemmas.List.Elements.{filter-append}
 use Rattle.std.proofs.lemmas.List.Sums.{sum_by-cons}
@@ -11,11 +11,11 @@ use Rattle.text_pos.specs.declared.length.Span.{Span}
 use Rattle.text_defs.specs.Text.{norm, lines_of, line_count}
 use Rattle.text_defs.specs.Batch.{TextEdit, edit_fault, edited, is_touched}
 use Rattle.line_text.specs.declared.carry.Run.{Run}
-use Rattle.line_text.specs.Carried.{new_ends, old_ends, ends_before, new_number, carried_lines, lengthened, onto_runs, longest_runs, carried}
+use Rattle.line_text.specs.Carried.{new_ends, old_ends, ends_before, new_number, lengthened, onto_runs, longest_runs, carried}
 use Rattle.line_text.specs.Runs.{run_between}
 use Rattle.line_text.proofs.CountedSizes.{line_count-pos}
-use Rattle.line_text.proofs.Places.{IsPlace, IsFrom, IsFrom-lines}
-use Rattle.line_text.proofs.ValidBatches.{IsNext, AreValid, AreValid-origin, origin, IsPlace-origin, removed_lines, added_lines, line_count-replaced, removed_lines_le}
+use Rattle.line_text.proofs.Places.{IsPlace, IsFrom-lines}
+use Rattle.line_text.proofs.ValidBatches.{AreValid, AreValid-origin, origin, IsPlace-origin, removed_lines, added_lines, line_count-replaced, removed_lines_le}
 
 -- the runs between the spans, from an old line and its new number on
 abbrev pub gaps : ℕ → ℕ → ℕ → List TextEdit → List Run
@@ -69,9 +69,9 @@ RunsAbove-longest_runs x (p ∷ ps) h = RunsAbove-onto_runs x p.0 p.1 (longest_r
 StartsAbove-filtered : (p : ℕ → Bool) (f : ℕ → ℕ) (x a m : ℕ) → x < a → StartsAbove x (map (λ n. (n, f n)) (filter p (range_with_len a m)))
 StartsAbove-filtered p f x a zero h = tt
 StartsAbove-filtered p f x a (suc m) h = elim (cases_Bool (p a)) [
-    inl e ↦ rw e h
-    | inr e ↦ rw e (StartsAbove-filtered p f x (a + 1) m (omega arith))
-  ]
+  | inl e ↦ rw e h
+  | inr e ↦ rw e (StartsAbove-filtered p f x (a + 1) m (omega arith))
+]
 
 -- one line in front of a run, which may be empty
 
@@ -84,11 +84,11 @@ run_of old new count = record { old = old; new = new; count = count }
 
 onto_between : (old new end : ℕ) (runs : List Run) → old < end → (end ≡ old + 1 → RunsAbove (old + 1) runs) → onto_runs old new (run_between (old + 1) end (new + 1) ++ runs) ≡ run_between old end new ++ runs
 onto_between old new end runs l h = elim (cases_lt (old + 1) end) [
-    inl m ↦ let e : end - (old + 1) + 1 ≡ end - old = omega arith in
+  | inl m ↦ let e : end - (old + 1) + 1 ≡ end - old = omega arith in
       rw (lt-ltb (old + 1) end m, lt-ltb old end l, eq-eqb (old + 1) (old + 1) refl, eq-eqb (new + 1) (new + 1) refl) (ap (λ (c : ℕ). run_of old new c ∷ runs) e)
-    | inr m ↦ let e : 1 ≡ end - old = omega arith in
+  | inr m ↦ let e : 1 ≡ end - old = omega arith in
       rw (le-ltb (old + 1) end m, lt-ltb old end l) (onto_far old new runs (h (omega arith)) ∙ ap (λ (c : ℕ). run_of old new c ∷ runs) e)
-  ]
+]
 
 -- lines whose numbers rise together are one run
 run_of_range : (f : ℕ → ℕ) (old new m : ℕ) (ps : List (ℕ × ℕ)) → ((n : ℕ) → old ≤ n → n < old + m → f n + old ≡ new + n) → (0 < m → StartsAbove (old + m) ps)
@@ -137,13 +137,13 @@ listed-cons lines f at e es old before held behind v b h l =
     let q : ℕ → Bool = λ n. not (is_touched n es) in
     let forward = IsFrom-lines e.span.from e.span.to v.0.forward in
     let split : range_with_len old (before + (held + behind)) ≡ range_with_len old before ++ (range_with_len (old + before) held ++ range_with_len (e.span.to.line + 1) behind) =
-      range-append old before (held + behind) ∙ ap (λ (xs : List ℕ). range_with_len old before ++ xs) (range-append (old + before) held behind ∙ ap (λ (a : ℕ). range_with_len (old + before) held ++ range_with_len a behind) h) in
+    range-append old before (held + behind) ∙ ap (λ (xs : List ℕ). range_with_len old before ++ xs) (range-append (old + before) held behind ∙ ap (λ (a : ℕ). range_with_len (old + before) held ++ range_with_len a behind) h) in
     let first : filter p (range_with_len old before) ≡ range_with_len old before =
-      filter-all p old before (λ n m u. rw (lt-leb e.span.from.line n (omega arith), untouched_before lines e.span.to es n v.1 (omega arith)) refl) in
+    filter-all p old before (λ n m u. rw (lt-leb e.span.from.line n (omega arith), untouched_before lines e.span.to es n v.1 (omega arith)) refl) in
     let second : filter p (range_with_len (old + before) held) ≡ [] =
-      filter-none p (old + before) held (λ n m u. rw (le-leb e.span.from.line n (omega arith), le-leb n e.span.to.line (omega arith)) refl) in
+    filter-none p (old + before) held (λ n m u. rw (le-leb e.span.from.line n (omega arith), le-leb n e.span.to.line (omega arith)) refl) in
     let third : filter p (range_with_len (e.span.to.line + 1) behind) ≡ filter q (range_with_len (e.span.to.line + 1) behind) =
-      filter-same p q (e.span.to.line + 1) behind (λ n m u. rw (le-leb e.span.from.line n (omega arith), lt-leb n e.span.to.line (omega arith)) refl) in
+    filter-same p q (e.span.to.line + 1) behind (λ n m u. rw (le-leb e.span.from.line n (omega arith), lt-leb n e.span.to.line (omega arith)) refl) in
     let pair : ℕ → ℕ × ℕ = λ n. (n, f n) in
     ap (λ (xs : List ℕ). map pair (filter p xs)) split
     ∙ ap (map pair) (filter-append p (range_with_len old before) (range_with_len (old + before) held ++ range_with_len (e.span.to.line + 1) behind) ∙ rw (first, filter-append p (range_with_len (old + before) held) (range_with_len (e.span.to.line + 1) behind), second, third) refl)
@@ -151,9 +151,9 @@ listed-cons lines f at e es old before held behind v b h l =
 
 run_between-same : (old from before new : ℕ) → before ≡ from - old → run_between old (old + before) new ≡ run_between old from new
 run_between-same old from before new e = elim (cases_lt old from) [
-    inl l ↦ let same : old + before ≡ from = omega arith in rw same refl
-    | inr l ↦ rw (le-ltb old from l, le-ltb old (old + before) (omega arith)) refl
-  ]
+  | inl l ↦ let same : old + before ≡ from = omega arith in rw same refl
+  | inr l ↦ rw (le-ltb old from l, le-ltb old (old + before) (omega arith)) refl
+]
 
 -- the numbers behind a span
 Numbers-cons : (f : ℕ → ℕ) (e : TextEdit) (es : List TextEdit) (old added gone : ℕ) → Numbers f old added gone (e ∷ es) → old ≤ e.span.to.line + 1 → Numbers f (e.span.to.line + 1) (added + new_ends e) (gone + old_ends e) es
@@ -165,9 +165,9 @@ Numbers-cons f e es old added gone h l n m =
 -- no number falls below 0
 pub no_wrap : (old new from : ℕ) → (0 < old → 0 < new) → old ≤ from + 1 → old ≤ new + from
 no_wrap old new from s l = elim (cases_lt 0 old) [
-    inl m ↦ omega (arith, s m)
-    | inr m ↦ omega arith
-  ]
+  | inl m ↦ omega (arith, s m)
+  | inr m ↦ omega arith
+]
 
 pub carried_from : (lines : List (List ℕ)) (f : ℕ → ℕ) (at : Pos) (es : List TextEdit) (old new added gone : ℕ) → at.line < length lines → AreValid lines at es → old ≤ at.line + 1 → (0 < old → 0 < new) → new + gone ≡ old + added → Numbers f old added gone es
     → longest_runs (listed f es old (length lines - old)) ≡ gaps (length lines) old new es
@@ -192,12 +192,12 @@ carried_from lines f at (e ∷ es) old new added gone p v l s sum h =
     let total : count - old ≡ before + (held + behind) = omega arith in
     let none : (n : ℕ) → n ≤ from → filter (ends_before n) (e ∷ es) ≡ [] = λ n m. rw (le-ltb to n (omega arith)) (none_ends_before lines e.span.to es n v.1 (omega arith)) in
     let ahead : (n : ℕ) → old ≤ n → n < old + before → f n + old ≡ new + n =
-      λ n m u. let at_n : f n ≡ n + (added + 0) - (gone + 0) = rw (none n (omega arith)) at (h n m) in omega arith in
+    λ n m u. let at_n : f n ≡ n + (added + 0) - (gone + 0) = rw (none n (omega arith)) at (h n m) in omega arith in
     let above : 0 < before → StartsAbove (old + before) (listed f es (to + 1) behind) = λ m. StartsAbove-filtered (λ n. not (is_touched n es)) f (old + before) (to + 1) behind (omega arith) in
     let lines_pos = line_count-pos (norm e.text) in
     let kept = no_wrap old new from s (omega arith) in
     let rest = carried_from lines f e.span.to es (to + 1) new' (added + new_ends e) (gone + old_ends e) within v.1 (omega arith) (λ m. omega arith) (omega arith)
-      (Numbers-cons f e es old added gone h (omega arith)) in
+    (Numbers-cons f e es old added gone h (omega arith)) in
     ap (λ (m : ℕ). longest_runs (listed f (e ∷ es) old m)) total
     ∙ ap longest_runs (listed-cons lines f at e es old before held behind v refl (omega arith) (omega arith))
     ∙ run_of_range f old new before (listed f es (to + 1) behind) ahead above
@@ -231,7 +231,7 @@ IsAtGap-origin text es h =
       valid = valid;
       follows = omega arith;
       started = λ l. l;
-      sized = omega (arith, line_count-replaced text origin es (IsPlace-origin text) valid)
+      sized = omega (arith, line_count-replaced text origin es (IsPlace-origin text) valid);
     }
 
 pub IsAtGap-few : (text : List ℕ) (total : ℕ) (es : List TextEdit) (old new : ℕ) → IsAtGap text total es old new → new ≤ total
@@ -252,15 +252,17 @@ gap_cons text total e es old new g =
     let rises = IsFrom-lines g.at e.span.from g.valid.0.behind in
     let forward = IsFrom-lines e.span.from e.span.to g.valid.0.forward in
     let lines_pos = line_count-pos (norm e.text) in
-    let kept = no_wrap old new e.span.from.line g.started (omega (arith, g.follows)) in
-    (kept, record {
-      at = e.span.to;
-      there = g.valid.0.to;
-      valid = g.valid.1;
-      follows = omega arith;
-      started = λ l. omega arith;
-      sized = omega (arith, g.sized, sum_by-cons removed_lines e es, sum_by-cons added_lines e es)
-    })
+    let kept = no_wrap old new e.span.from.line g.started (omega (arith, g.follows)) in (
+      kept,
+      record {
+        at = e.span.to;
+        there = g.valid.0.to;
+        valid = g.valid.1;
+        follows = omega arith;
+        started = λ l. omega arith;
+        sized = omega (arith, g.sized, sum_by-cons removed_lines e es, sum_by-cons added_lines e es);
+      },
+    )
 
 gap_get_or : (text : List ℕ) (total : ℕ) (es : List TextEdit) (i : ℕ) (d : TextEdit) (old new : ℕ) → IsAtGap text total (drop i es) old new → i < length es → GapStep text total es i (get_or es i d).span (get_or es i d).text old new
 gap_get_or text total es i d old new g l =
@@ -275,7 +277,7 @@ gap_get_or text total es i d old new g l =
       few = IsAtGap-few text total (drop i es) old new g;
       later_few = IsAtGap-few text total (drop (i + 1) es) _ _ step.1;
       listed = ap (gaps (line_count text) old new) split;
-      next = step.1
+      next = step.1;
     }
 
 pub gap_step : (text : List ℕ) (total : ℕ) (es : List TextEdit) (i : ℕ) (e : TextEdit) (span : Span) (old new : ℕ) → IsAtGap text total (drop i es) old new → i < length es → e ≡ get_or es i e → span ≡ e.span → GapStep text total es i span e.text old new

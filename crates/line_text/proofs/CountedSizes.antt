@@ -1,8 +1,7 @@
 -- Counting a text character by character.
-use Rattle.std.proofs.Common.{◌≡◌, ℕ, zero, suc, ◌+◌, ◌-◌, ◌^◌, ◌<◌, ◌≤◌, List, [], ◌∷◌, ◌++◌, Bool, true, false, length, refl, ap, sym, ◌∙◌, arith, eqb, cond, min}
+use Rattle.std.proofs.Common.{◌≡◌, ℕ, ◌+◌, ◌<◌, List, [], ◌∷◌, ◌++◌, Bool, true, false, length, refl, ◌∙◌, arith, eqb, cond}
 use Rattle.std.proofs.lemmas.List.{length-append}
-use Rattle.std.proofs.lemmas.Bool.Decides.{nat_tests}
-use Rattle.text_defs.specs.Text.{lines_of, line_count, before_lines, onto_first}
+use Rattle.text_defs.specs.Text.{lines_of, line_count, onto_first}
 use Rattle.text_defs.specs.Batch.{counted}
 use Rattle.line_text.specs.declared.size.Size.{Size}
 use Rattle.line_text.specs.Sizes.{IsSizeOf}
@@ -46,10 +45,11 @@ lines_counted false old new had h e f = omega arith
 pub IsSizeOf-push : (text : List ℕ) (c : ℕ) (old new : Size) → IsSizeOf text old → new.chars ≡ counted (old.chars + 1) → new.lines ≡ cond (eqb c 10) (counted (old.lines + 1)) old.lines → IsSizeOf (text ++ c ∷ []) new
 IsSizeOf-push text c old new h e f = record {
   chars = omega (arith, h.chars, length-append text (c ∷ []));
-  lines = f' }
-    where
-      f' : new.lines ≡ counted (line_count (text ++ c ∷ []))
-      f' = rw (line_count-push text c) (lines_counted (eqb c 10) old.lines new.lines (line_count text) (line_count-pos text) h.lines f)
+  lines = f';
+}
+  where
+    f' : new.lines ≡ counted (line_count (text ++ c ∷ []))
+    f' = rw (line_count-push text c) (lines_counted (eqb c 10) old.lines new.lines (line_count text) (line_count-pos text) h.lines f)
 
 pub IsSizeOf-nil : IsSizeOf [] (record { chars = 0; lines = 1 })
 IsSizeOf-nil = record { chars = refl; lines = refl }

@@ -1,13 +1,12 @@
 -- How large the text of a file can be.
-use Rattle.std.proofs.Common.{◌≡◌, ℕ, zero, suc, ◌+◌, ◌-◌, ◌^◌, ◌<◌, ◌≤◌, List, [], ◌∷◌, ◌++◌, Bool, true, false, ◌&&◌, length, refl, ap, sym, ◌∙◌, arith, eqb, leb, cond, min}
+use Rattle.std.proofs.Common.{◌≡◌, ℕ, ◌+◌, ◌^◌, ◌<◌, ◌≤◌, List, [], ◌∷◌, Bool, true, false, length, ap, arith, eqb, cond}
 use Rattle.std.specs.Str.{chars, IsUtf8}
 use Rattle.std.proofs.lemmas.Str.{length-le-encodes, encodes-chars, utf8_valid_len-IsUtf8}
 use Rattle.std.proofs.lemmas.Bool.{eq-eqb, le-leb, and_from}
-use Rattle.text_defs.specs.Text.{norm, end_normalised, begins_with, without_mark, text_of, is_utf8, is_text, lines_of, line_count, most_chars, most_lines}
-use Rattle.text_defs.specs.Batch.{counted}
+use Rattle.text_defs.specs.Text.{norm, begins_with, without_mark, text_of, is_utf8, is_text, line_count, most_chars, most_lines}
 use Rattle.line_text.specs.declared.size.Size.{Size}
 use Rattle.line_text.specs.Sizes.{IsSizeOf}
-use Rattle.line_text.proofs.CountedSizes.{line_count-cons, ends_line}
+use Rattle.line_text.proofs.CountedSizes.{line_count-cons}
 
 length-end_normalised : (cr before_lf : Bool) (c : ℕ) (rest : List ℕ) → length (cond cr (cond before_lf rest (10 ∷ rest)) (c ∷ rest)) ≤ length rest + 1
 length-end_normalised true true c rest = omega arith

@@ -1,9 +1,9 @@
 -- The lines of joined lines are those lines again.
-use Rattle.std.proofs.Common.{◌≡◌, ◌≢◌, ℕ, zero, suc, ◌+◌, ◌<◌, ◌≤◌, List, [], ◌∷◌, ◌++◌, length, All, get_or, map, take, drop, Bool, true, false, cond, refl, ap, sym, ◌∙◌, arith, add_assoc}
+use Rattle.std.proofs.Common.{◌≡◌, ◌≢◌, ℕ, zero, suc, ◌<◌, ◌≤◌, List, [], ◌∷◌, ◌++◌, length, All, get_or, take, drop, Bool, true, false, cond, refl, ap, sym, ◌∙◌, arith}
 use Rattle.std.proofs.lemmas.Bool.{ne_eqb}
 use Rattle.std.proofs.lemmas.List.{length-append, append-nil, append_assoc}
-use Rattle.text_defs.specs.Text.{lines_of, line_in, onto_first, before_lines}
-use Rattle.line_text.specs.Lines.{joined, behind_lf, ended, IsLine, AreLines, IsKept}
+use Rattle.text_defs.specs.Text.{lines_of, line_in, onto_first}
+use Rattle.line_text.specs.Lines.{joined, behind_lf, ended, IsLine, AreLines}
 
 -- the characters in front of the first of the lines
 abbrev pub all_onto : List ℕ → List (List ℕ) → List (List ℕ)

@@ -1,19 +1,19 @@
 -- The runs that a batch carries lead from the lines before it to the lines after it.
-use Rattle.std.proofs.Common.{◌≡◌, ℕ, zero, suc, ◌+◌, ◌-◌, ◌<◌, ◌≤◌, ◌⊎◌, ◌↔◌, inl, inr, None, List, [], ◌∷◌, ◌++◌, length, take, drop, Bool, true, false, cond, eqb, refl, ap, subst, sym, ◌∙◌, arith, append_assoc}
-use Rattle.std.proofs.lemmas.Bool.{lt-ltb, le-ltb, cases_lt, cases_Bool, ne_eqb}
+use Rattle.std.proofs.Common.{◌≡◌, ℕ, zero, suc, ◌+◌, ◌-◌, ◌<◌, ◌≤◌, ◌⊎◌, inl, inr, None, List, [], ◌∷◌, ◌++◌, length, take, drop, Bool, true, false, cond, eqb, refl, ap, subst, sym, ◌∙◌, arith, append_assoc}
+use Rattle.std.proofs.lemmas.Bool.{lt-ltb, le-ltb, cases_lt}
 use Rattle.std.proofs.lemmas.List.{length-append, length-take-le, length-drop, drop-drop, take_at, drop_at, take_rest, append-nil}
 use Rattle.text_pos.specs.declared.length.Pos.{Pos}
 use Rattle.text_defs.specs.Text.{norm, lines_of, line_in, line_count, onto_first}
 use Rattle.text_defs.specs.Batch.{TextEdit, edit_fault, replaced, edited}
 use Rattle.line_text.specs.declared.carry.Run.{Run}
-use Rattle.line_text.specs.Carried.{IsRun, IsGap, LeadsOn, LeadsFrom, carried}
+use Rattle.line_text.specs.Carried.{IsGap, LeadsOn, LeadsFrom, carried}
 use Rattle.line_text.specs.Runs.{run_between}
-use Rattle.line_text.specs.Lines.{joined, IsLine, AreLines}
+use Rattle.line_text.specs.Lines.{IsLine, AreLines}
 use Rattle.line_text.proofs.JoinedLines.{lines_of-append, all_onto, all_onto-cons, line_in-IsLine, IsLine-take, IsLine-drop}
 use Rattle.line_text.proofs.CountedSizes.{line_count-pos, line_count-cons, line_count-append}
-use Rattle.line_text.proofs.Places.{start, start_mono, piece, piece_part, piece_line, drop_line, IsPlace, IsFrom, IsFrom-lines, IsFrom-cols, joined-lines_of, AreLines-lines_of, lines_of-drop_place}
+use Rattle.line_text.proofs.Places.{start, start_mono, piece, piece_part, piece_line, drop_line, IsPlace, IsFrom-lines, IsFrom-cols, joined-lines_of, AreLines-lines_of, lines_of-drop_place}
 use Rattle.line_text.proofs.ValidBatches.{IsNext, AreValid, AreValid-origin, origin, IsPlace-origin, offset, line_count-line}
-use Rattle.line_text.proofs.CarriedRuns.{gaps, gaps-carried, no_wrap}
+use Rattle.line_text.proofs.CarriedRuns.{gaps, gaps-carried}
 
 -- lines of texts that are put together
 
@@ -110,16 +110,16 @@ behind_cons text at e es old rest p v (inl b) l =
     let left = norm e.text ++ replaced text (offset lines e.span.to) es in
     let all : from.line ≡ from.line - 0 = omega arith in
     rw (b.0) (b.2 ∙ ap (λ (a : Pos). lines_of (replaced text (offset lines a) (e ∷ es))) b.1
-      ∙ ap (λ (xs : List ℕ). lines_of (take (offset lines from - 0) (drop 0 xs) ++ left)) (sym (joined-lines_of text))
-      ∙ lines_of-piece lines from.line 0 from.line from.col left (AreLines-lines_of text) (omega arith) v.from.line v.from.col
-      ∙ ap (λ (n : ℕ). take n lines ++ edit_lines text e es) all)
+    ∙ ap (λ (xs : List ℕ). lines_of (take (offset lines from - 0) (drop 0 xs) ++ left)) (sym (joined-lines_of text))
+    ∙ lines_of-piece lines from.line 0 from.line from.col left (AreLines-lines_of text) (omega arith) v.from.line v.from.col
+    ∙ ap (λ (n : ℕ). take n lines ++ edit_lines text e es) all)
 behind_cons text at e es old rest p v (inr b) l =
     let lines = lines_of text in
     let from = e.span.from in
     let left = norm e.text ++ replaced text (offset lines e.span.to) es in
     rw (b.0) (b.1
-      ∙ ap (λ (xs : List ℕ). drop 1 (lines_of (take (offset lines from - offset lines at) (drop (offset lines at) xs) ++ left))) (sym (joined-lines_of text))
-      ∙ drop-piece lines at.line at.col from.line from.col left (AreLines-lines_of text) (omega (arith, b.0)) v.from.line p.col v.from.col)
+    ∙ ap (λ (xs : List ℕ). drop 1 (lines_of (take (offset lines from - offset lines at) (drop (offset lines at) xs) ++ left))) (sym (joined-lines_of text))
+    ∙ drop-piece lines at.line at.col from.line from.col left (AreLines-lines_of text) (omega (arith, b.0)) v.from.line p.col v.from.col)
 
 -- an edit on the line where the one before it ends
 behind_same : (text : List ℕ) (at : Pos) (e : TextEdit) (es : List TextEdit) (old : ℕ) (rest : List (List ℕ)) → IsPlace (lines_of text) at → IsNext (lines_of text) at e → IsBehind text at (e ∷ es) old rest → e.span.from.line < old
@@ -161,9 +161,9 @@ next_later text new e es old number p d l =
     let sizes = ap (length {A = List ℕ}) d in
     record {
       rest = ap (λ (m : ℕ). drop m new) e1 ∙ sym (drop-drop (k + count) number new) ∙ ap (drop (k + count)) d
-        ∙ sym (drop-drop count k (front ++ own)) ∙ ap (drop count) (drop_at front own k front_length) ∙ drop-edit_lines text e es;
+          ∙ sym (drop-drop count k (front ++ own)) ∙ ap (drop count) (drop_at front own k front_length) ∙ drop-edit_lines text e es;
       within = omega (arith, sizes, length-drop number new, length-append front own, front_length, length-edit_lines text e es, line_count-pos (norm e.text));
-      before = omega (arith, sizes, length-drop number new, length-append front own, front_length, length-edit_lines text e es, line_count-pos (norm e.text))
+      before = omega (arith, sizes, length-drop number new, length-append front own, front_length, length-edit_lines text e es, line_count-pos (norm e.text));
     }
 
 next_same : (text : List ℕ) (new : List (List ℕ)) (e : TextEdit) (es : List TextEdit) (old number : ℕ) → number ≤ length new → 0 < number
@@ -178,7 +178,7 @@ next_same text new e es old number p s d l =
     record {
       rest = ap (λ (m : ℕ). drop m new) e1 ∙ sym (drop-drop (count - 1) number new) ∙ ap (drop (count - 1)) d ∙ drop-drop (count - 1) 1 own ∙ ap (λ (m : ℕ). drop m own) e2 ∙ drop-edit_lines text e es;
       within = omega (arith, sizes, length-drop number new, length-drop 1 own, length-edit_lines text e es);
-      before = omega arith
+      before = omega arith;
     }
 
 -- the lines behind the last edit are those of the text before
@@ -216,14 +216,14 @@ leads_last lines new i j old number d w l g =
     let sizes = ap (length {A = List ℕ}) d in
     let same = run_between old count number in
     subst (λ (runs : List Run). LeadsOn lines new i j runs) (append-nil same)
-      (elim (cases_lt old count) [
-        inl m ↦ let last : BothOrStart count count (number + (count - old)) (length new) = inr (refl, omega (arith, sizes, length-drop number new, length-drop old lines)) in
+    (elim (cases_lt old count) [
+      | inl m ↦ let last : BothOrStart count count (number + (count - old)) (length new) = inr (refl, omega (arith, sizes, length-drop number new, length-drop old lines)) in
           leads_run lines new i j old count number [] [] g m (omega arith) (omega (arith, sizes, length-drop number new, length-drop old lines))
           (d ∙ sym (append-nil (take (count - old) (drop old lines)) ∙ take_rest lines old)) (IsGap-from count count (number + (count - old)) (length new) last)
-        | inr m ↦ let old_is : old ≡ count = omega arith in
+      | inr m ↦ let old_is : old ≡ count = omega arith in
           let number_is : number ≡ length new = omega (arith, sizes, length-drop number new, length-drop old lines) in
           no_run lines new i j old count number [] m (rw (← old_is, ← number_is) (IsGap-from i old j number g))
-      ])
+    ])
 
 both_later : (i old j number old' number' : ℕ) → BothOrStart i old j number → old < old' → number < number' → BothOrStart i old' j number'
 both_later i old j number old' number' (inl g) l m = inl (omega (arith, g.0), omega (arith, g.1))
@@ -253,26 +253,26 @@ leads_on text new at (e ∷ es) i j old number p v b w l s g z =
     let runs = gaps (line_count text) (to + 1) number' es in
     let low = both_below i old j number g in
     elim (cases_lt from old) [
-      inl m ↦
-        let old_is : old ≡ from + 1 = omega arith in
-        let next = next_same text new e es old number w (s (omega arith)) (behind_same text at e es old (drop number new) p v.0 b m) old_is in
-        let later : number ≤ number' = omega arith in
-        no_run lines new i j old from number runs (omega arith)
+      | inl m ↦
+          let old_is : old ≡ from + 1 = omega arith in
+          let next = next_same text new e es old number w (s (omega arith)) (behind_same text at e es old (drop number new) p v.0 b m) old_is in
+          let later : number ≤ number' = omega arith in
+          no_run lines new i j old from number runs (omega arith)
           (leads_on text new e.span.to es i j (to + 1) number' v.0.to v.1 (inr (omega arith, next.rest)) next.within (omega arith) (λ x. omega arith)
-            (both_same i old j number (to + 1) number' g z (omega arith) (omega arith) later) (λ x. absurd (omega (arith, z (omega arith)))))
+          (both_same i old j number (to + 1) number' g z (omega arith) (omega arith) later) (λ x. absurd (omega (arith, z (omega arith)))))
       | inr m ↦
-        let d = behind_cons text at e es old (drop number new) p v.0 b m in
-        let next = next_later text new e es old number v.0.from.line d m in
-        elim (cases_lt old from) [
-          inl n ↦
-            let after : BothOrStart from (to + 1) (number + (from - old)) number' = inl (omega arith, omega arith) in
-            leads_run lines new i j old from number (edit_lines text e es) runs g n (omega (arith, v.0.from.line)) next.before d
-              (leads_on text new e.span.to es from (number + (from - old)) (to + 1) number' v.0.to v.1 (inr (omega arith, next.rest)) next.within (omega arith) (λ x. omega arith) after (λ x. absurd (omega arith)))
-          | inr n ↦
-            no_run lines new i j old from number runs n
-              (leads_on text new e.span.to es i j (to + 1) number' v.0.to v.1 (inr (omega arith, next.rest)) next.within (omega arith) (λ x. omega arith)
+          let d = behind_cons text at e es old (drop number new) p v.0 b m in
+          let next = next_later text new e es old number v.0.from.line d m in
+          elim (cases_lt old from) [
+            | inl n ↦
+                let after : BothOrStart from (to + 1) (number + (from - old)) number' = inl (omega arith, omega arith) in
+                leads_run lines new i j old from number (edit_lines text e es) runs g n (omega (arith, v.0.from.line)) next.before d
+                (leads_on text new e.span.to es from (number + (from - old)) (to + 1) number' v.0.to v.1 (inr (omega arith, next.rest)) next.within (omega arith) (λ x. omega arith) after (λ x. absurd (omega arith)))
+            | inr n ↦
+                no_run lines new i j old from number runs n
+                (leads_on text new e.span.to es i j (to + 1) number' v.0.to v.1 (inr (omega arith, next.rest)) next.within (omega arith) (λ x. omega arith)
                 (both_later i old j number (to + 1) number' g (omega arith) (omega arith)) (λ x. absurd (omega arith)))
-        ]
+          ]
     ]
 
 -- the runs that a batch carries lead from the old lines to the new ones
@@ -280,4 +280,4 @@ pub LeadsFrom-carried : (text : List ℕ) (es : List TextEdit) → edit_fault te
 LeadsFrom-carried text es h =
     let new = lines_of (edited text es) in
     subst (λ (runs : List Run). LeadsOn (lines_of text) new 0 0 runs) (gaps-carried text es h)
-      (leads_on text new origin es 0 0 0 0 (IsPlace-origin text) (AreValid-origin text 0 es h) (inl (refl, refl, refl)) (omega arith) (omega arith) (λ l. l) (inr (refl, refl)) (λ x. refl))
+    (leads_on text new origin es 0 0 0 0 (IsPlace-origin text) (AreValid-origin text 0 es h) (inl (refl, refl, refl)) (omega arith) (omega arith) (λ l. l) (inr (refl, refl)) (λ x. refl))

@@ -1,3 +1,4 @@
+pub mod CarriedExamples
 pub mod CarriedRuns
 pub mod CountedSizes
 pub mod FileTexts

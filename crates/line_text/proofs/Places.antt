@@ -1,15 +1,15 @@
 -- What lies between two places of a text.
-use Rattle.std.proofs.Common.{◌≡◌, ◌≢◌, ℕ, zero, suc, ◌+◌, ◌-◌, ◌<◌, ◌≤◌, ◌⊎◌, inl, inr, List, [], ◌∷◌, ◌++◌, length, get_or, take, drop, Bool, true, false, cond, refl, ap, sym, ◌∙◌, arith, append_assoc, eqb, add-suc, add-one, zero-add}
+use Rattle.std.proofs.Common.{◌≡◌, ◌≢◌, ℕ, zero, suc, ◌+◌, ◌-◌, ◌<◌, ◌≤◌, inl, inr, List, [], ◌∷◌, ◌++◌, length, take, drop, Bool, true, false, cond, refl, ap, sym, ◌∙◌, arith, append_assoc, eqb, add-one, zero-add}
 use Rattle.std.specs.Prelude.{sum_by}
-use Rattle.std.proofs.lemmas.Bool.{ltb-true, ltb-false, leb-true, and_parts, or_parts, and_cases, eqb-false, not-true, le-ltb, cases_lt, or_from, and_right}
+use Rattle.std.proofs.lemmas.Bool.{ltb-true, ltb-false, leb-true, and_parts, or_parts, and_cases, eqb-false, le-ltb, cases_lt, or_from, and_right}
 use Rattle.std.proofs.lemmas.Bool.Decides.{nat_tests}
 use Rattle.std.proofs.lemmas.List.{length-append, length-drop, append-nil, take_all, take-append-le, drop-append-le}
 use Rattle.std.proofs.lemmas.List.Sums.{sum_by-cons}
 use Rattle.std.proofs.Math.Seq.{take-append-add, drop-append-add}
 use Rattle.text_pos.specs.declared.length.Pos.{Pos}
-use Rattle.text_defs.specs.Text.{lines_of, line_of, line_in, line_count, onto_first, before_lines}
-use Rattle.text_defs.specs.Place.{holds, offset_of, is_before}
-use Rattle.line_text.specs.Lines.{joined, behind_lf, ended, IsLine, AreLines}
+use Rattle.text_defs.specs.Text.{lines_of, line_of, line_in, line_count, onto_first}
+use Rattle.text_defs.specs.Place.{holds, is_before}
+use Rattle.line_text.specs.Lines.{joined, behind_lf, AreLines}
 use Rattle.line_text.proofs.CountedSizes.{line_count-pos}
 use Rattle.line_text.proofs.JoinedLines.{lines_of-append, lines_of-behind, all_onto-cons, line_in-IsLine, IsLine-drop}
 
@@ -118,10 +118,10 @@ IsFrom-is_before a b h =
     let parts = or_parts _ _ h in
     let lines_rise = ltb-false b.line a.line parts.0 in
     elim (cases_lt a.line b.line) [
-      inl l ↦ later_line l
+      | inl l ↦ later_line l
       | inr l ↦ let e : a.line ≡ b.line = omega arith in
           elim (and_cases _ _ parts.1) [
-            inl n ↦ absurd (eqb-false b.line a.line n (sym e))
+            | inl n ↦ absurd (eqb-false b.line a.line n (sym e))
             | inr c ↦ same_line e (ltb-false b.col a.col c)
           ]
     ]
@@ -160,7 +160,7 @@ lines_of-drop_place lines n col h i j =
     let front = drop col (line_in lines n) in
     let rest = drop (suc n) lines in
     rw (drop_place lines n col i j, lines_of-append front (behind_lf rest) (IsLine-drop col (line_in lines n) (line_in-IsLine lines n h)), lines_of-behind rest (AreLines-drop (suc n) lines h))
-      (all_onto-cons front [] rest ∙ ap (λ (l : List ℕ). l ∷ rest) (append-nil front))
+    (all_onto-cons front [] rest ∙ ap (λ (l : List ℕ). l ∷ rest) (append-nil front))
 
 -- the same at the next line of a loop
 pub start_next : (lines : List (List ℕ)) (n : ℕ) → n < length lines → start lines (n + 1) ≡ start lines n + length (line_in lines n) + 1

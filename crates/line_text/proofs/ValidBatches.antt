@@ -1,5 +1,5 @@
 -- A batch whose edits are in range and in order, and the size of the text that it makes.
-use Rattle.std.proofs.Common.{◌≡◌, ℕ, zero, suc, ◌+◌, ◌-◌, ◌<◌, ◌≤◌, ◌⊎◌, inl, inr, Option, Some, None, List, [], ◌∷◌, ◌++◌, length, get_or, take, drop, Bool, true, false, cond, refl, ap, subst, sym, ◌∙◌, arith, append_assoc}
+use Rattle.std.proofs.Common.{◌≡◌, ℕ, zero, suc, ◌+◌, ◌-◌, ◌<◌, ◌≤◌, inl, inr, Option, Some, None, List, [], ◌∷◌, ◌++◌, length, get_or, take, drop, Bool, true, false, cond, refl, ap, subst, sym, ◌∙◌, arith, append_assoc}
 use Rattle.std.specs.Prelude.{sum_by}
 use Rattle.std.proofs.lemmas.Bool.{and_parts, and_from, not-true, cases_lt, ne_eqb, lt-ltb, le-leb}
 use Rattle.std.proofs.lemmas.List.{length-append, length-drop, length-take-le, append-nil, drop_more}
@@ -11,10 +11,10 @@ use Rattle.text_defs.specs.Place.{offset_of, holds, is_before}
 use Rattle.text_defs.specs.Batch.{TextEdit, BatchRefusal, edit_fault, first_fault, is_in_range, is_in_order, replaced, edited, counted}
 use Rattle.line_text.specs.declared.size.Size.{Size}
 use Rattle.line_text.specs.Sizes.{IsSizeOf}
-use Rattle.line_text.specs.Lines.{joined, behind_lf, ended, IsLine, AreLines}
-use Rattle.line_text.proofs.JoinedLines.{lines_of-append, all_onto, all_onto-cons, lines_of-behind, line_in-IsLine, IsLine-take, IsLine-drop}
+use Rattle.line_text.specs.Lines.{IsLine, AreLines}
+use Rattle.line_text.proofs.JoinedLines.{line_in-IsLine, IsLine-take, IsLine-drop}
 use Rattle.line_text.proofs.CountedSizes.{line_count-append, line_count-cons, line_count-pos}
-use Rattle.line_text.proofs.Places.{start, start_step, start_mono, piece, piece_part, piece_line, drop_place, IsPlace, IsFrom, later_line, same_line, IsPlace-holds, IsFrom-is_before, offset_le, offset_within, joined-lines_of, AreLines-lines_of, IsFrom-lines, IsFrom-cols, lines_of-drop_place, is_before-origin}
+use Rattle.line_text.proofs.Places.{start, start_mono, piece, piece_part, piece_line, IsPlace, IsFrom, later_line, same_line, IsPlace-holds, IsFrom-is_before, offset_le, offset_within, joined-lines_of, AreLines-lines_of, IsFrom-lines, IsFrom-cols, lines_of-drop_place, is_before-origin}
 
 -- an edit that may come where the one before it ends at a place
 pub record IsNext (lines : List (List ℕ)) (at : Pos) (e : TextEdit) : Type 0 where
@@ -37,13 +37,15 @@ AreValid-edit_fault text at n [] h = tt
 AreValid-edit_fault text at n (e ∷ es) h =
     let parts = first_fault-None (is_in_range text e) (is_in_order (Some at) e) n (edit_fault text (Some e.span.to) (suc n) es) h in
     let range = and_parts _ _ parts.0 in
-    let places = and_parts _ _ range.0 in
-    (record {
-      from = IsPlace-holds text e.span.from places.0;
-      to = IsPlace-holds text e.span.to places.1;
-      behind = IsFrom-is_before at e.span.from (not-true _ parts.1);
-      forward = IsFrom-is_before e.span.from e.span.to (not-true _ range.1)
-    }, AreValid-edit_fault text e.span.to (suc n) es parts.2)
+    let places = and_parts _ _ range.0 in (
+      record {
+        from = IsPlace-holds text e.span.from places.0;
+        to = IsPlace-holds text e.span.to places.1;
+        behind = IsFrom-is_before at e.span.from (not-true _ parts.1);
+        forward = IsFrom-is_before e.span.from e.span.to (not-true _ range.1);
+      },
+      AreValid-edit_fault text e.span.to (suc n) es parts.2,
+    )
 
 -- where every text begins
 abbrev pub origin : Pos
@@ -52,7 +54,7 @@ origin = record { line = 0; col = 0 }
 pub IsFrom-origin : (at : Pos) → IsFrom origin at
 IsFrom-origin at =
     elim (cases_lt 0 at.line) [
-      inl l ↦ later_line l
+      | inl l ↦ later_line l
       | inr z ↦ same_line (omega arith) (omega arith)
     ]
 
@@ -65,13 +67,15 @@ AreValid-origin text n [] h = tt
 AreValid-origin text n (e ∷ es) h =
     let parts = first_fault-None (is_in_range text e) true n (edit_fault text (Some e.span.to) (suc n) es) h in
     let range = and_parts _ _ parts.0 in
-    let places = and_parts _ _ range.0 in
-    (record {
-      from = IsPlace-holds text e.span.from places.0;
-      to = IsPlace-holds text e.span.to places.1;
-      behind = IsFrom-origin e.span.from;
-      forward = IsFrom-is_before e.span.from e.span.to (not-true _ range.1)
-    }, AreValid-edit_fault text e.span.to (suc n) es parts.2)
+    let places = and_parts _ _ range.0 in (
+      record {
+        from = IsPlace-holds text e.span.from places.0;
+        to = IsPlace-holds text e.span.to places.1;
+        behind = IsFrom-origin e.span.from;
+        forward = IsFrom-is_before e.span.from e.span.to (not-true _ range.1);
+      },
+      AreValid-edit_fault text e.span.to (suc n) es parts.2,
+    )
 
 -- the offset of a place
 abbrev pub offset : List (List ℕ) → Pos → ℕ
@@ -92,8 +96,17 @@ length-replaced text at (e ∷ es) p v =
     let front = take (offset lines e.span.from - offset lines at) (drop (offset lines at) text) in
     let within : offset lines e.span.from ≤ length text = omega (arith, offset_within lines e.span.from v.0.from, ap length (joined-lines_of text)) in
     let front_length : length front ≡ offset lines e.span.from - offset lines at = length-take-le _ _ (omega (arith, length-drop (offset lines at) text)) in
-    omega (arith, length-replaced text e.span.to es v.0.to v.1, front_length, length-append front (norm e.text ++ rest), length-append (norm e.text) rest,
-      sum_by-cons (removed lines) e es, sum_by-cons added e es, offset_le lines at e.span.from p v.0.from v.0.behind, offset_le lines e.span.from e.span.to v.0.from v.0.to v.0.forward)
+    omega (
+      arith,
+      length-replaced text e.span.to es v.0.to v.1,
+      front_length,
+      length-append front (norm e.text ++ rest),
+      length-append (norm e.text) rest,
+      sum_by-cons (removed lines) e es,
+      sum_by-cons added e es,
+      offset_le lines at e.span.from p v.0.from v.0.behind,
+      offset_le lines e.span.from e.span.to v.0.from v.0.to v.0.forward,
+    )
 
 -- the spans don't overlap, so no more is removed than there is
 pub removed_le : (text : List ℕ) (at : Pos) (es : List TextEdit) → IsPlace (lines_of text) at → AreValid (lines_of text) at es → sum_by (removed (lines_of text)) es + offset (lines_of text) at ≤ length text
@@ -121,7 +134,7 @@ line_count-piece lines (suc gap) n col m to h e l i j k =
     let rest = piece lines (suc n) 0 (start lines m + to) in
     let below : start lines (suc n) ≤ start lines m + to = omega (arith, start_mono lines (suc n) m (omega arith)) in
     rw (piece_line lines n col (start lines m + to) (omega arith) k below, line_count-line (drop col (line_in lines n)) (10 ∷ rest) (IsLine-drop col (line_in lines n) (line_in-IsLine lines n h)))
-      (omega (arith, line_count-cons 10 rest, line_count-piece lines gap (suc n) 0 m to h (omega arith) l i (λ _. omega arith) (omega arith)))
+    (omega (arith, line_count-cons 10 rest, line_count-piece lines gap (suc n) 0 m to h (omega arith) l i (λ _. omega arith) (omega arith)))
 
 -- the lines of a batch's text
 
@@ -144,8 +157,17 @@ line_count-replaced text at (e ∷ es) p v =
     let rises = IsFrom-lines at from v.0.behind in
     let counted = line_count-piece lines (from.line - at.line) at.line at.col from.line from.col (AreLines-lines_of text) (omega arith) v.0.from.line v.0.from.col (IsFrom-cols at from v.0.behind) p.col in
     let front_lines : line_count front ≡ suc (from.line - at.line) = rw (joined-lines_of text) at counted in
-    omega (arith, line_count-replaced text e.span.to es v.0.to v.1, front_lines, line_count-append front (norm e.text ++ rest), line_count-append (norm e.text) rest,
-      line_count-pos (norm e.text), sum_by-cons removed_lines e es, sum_by-cons added_lines e es, IsFrom-lines from e.span.to v.0.forward)
+    omega (
+      arith,
+      line_count-replaced text e.span.to es v.0.to v.1,
+      front_lines,
+      line_count-append front (norm e.text ++ rest),
+      line_count-append (norm e.text) rest,
+      line_count-pos (norm e.text),
+      sum_by-cons removed_lines e es,
+      sum_by-cons added_lines e es,
+      IsFrom-lines from e.span.to v.0.forward,
+    )
 
 -- nor are more lines removed than there are
 pub removed_lines_le : (text : List ℕ) (at : Pos) (es : List TextEdit) → IsPlace (lines_of text) at → AreValid (lines_of text) at es → sum_by removed_lines es + at.line < line_count text
@@ -197,7 +219,7 @@ at_get_or text es i d h l =
       lines_removed = sum_by_more removed_lines es i d l;
       lines_left = omega (arith, sum_by-take-le removed_lines es (i + 1), removed_lines_le text origin es start_place valid);
       chars_added = sum_by_more added es i d l;
-      lines_added = sum_by_more added_lines es i d l
+      lines_added = sum_by_more added_lines es i d l;
     }
 
 pub at_edit : (text : List ℕ) (es : List TextEdit) (i : ℕ) (e : TextEdit) (span : Span) → edit_fault text None 0 es ≡ None → i < length es → e ≡ get_or es i e → span ≡ e.span → AtEdit text es i span e.text
@@ -213,7 +235,7 @@ IsSizeOf-edited text es size kept_chars kept_lines added_chars added_line_ends h
     let valid = AreValid-origin text 0 es h in
     record {
       chars = omega (arith, length-replaced text origin es (IsPlace-origin text) valid);
-      lines = omega (arith, line_count-replaced text origin es (IsPlace-origin text) valid)
+      lines = omega (arith, line_count-replaced text origin es (IsPlace-origin text) valid);
     }
 
 -- what a loop that goes from span to span knows at its edit number i, where the edit before it ends at `at`
@@ -243,7 +265,7 @@ at_drop text at es i d h l =
       to = places.1;
       behind = not-true _ parts.1;
       later = edit_fault-renumbered text (Some e.span.to) 1 0 (drop (i + 1) es) parts.2;
-      replaces = ap (replaced text (offset_of text at)) split
+      replaces = ap (replaced text (offset_of text at)) split;
     }
 
 pub at_span : (text : List ℕ) (at : Pos) (es : List TextEdit) (i : ℕ) (e : TextEdit) (span : Span) → edit_fault text (Some at) 0 (drop i es) ≡ None → i < length es → e ≡ get_or es i e → span ≡ e.span → AtSpan text at es i span e.text

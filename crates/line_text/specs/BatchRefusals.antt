@@ -1,5 +1,5 @@
--- How the answers of a batch stand for the causes of its refusal.
-use Rattle.std.specs.Prelude.{◌≡◌, Bool, true, false, Option, Some, None}
+-- How the answers of a batch stand for the causes of its refusal, which are this project's own.
+use Rattle.std.specs.Prelude.{◌≡◌, Option, Some}
 use Rattle.text_defs.specs.Batch.{BatchRefusal, range, order, too_many_chars, too_many_lines}
 use Rattle.line_text.specs.declared.edit.EditRefusal.{EditRefusal}
 use Rattle.line_text.specs.declared.edit.EditRefusal.TheVariants.{Range, Order, TooManyChars, TooManyLines, Memory}

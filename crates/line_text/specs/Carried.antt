@@ -1,7 +1,7 @@
 -- The lines that a batch carries: those that no span's first to last line holds. They keep their text, and each
 -- is as far down in the new text as the line ends before it have become more. That lines are carried so, and
 -- that the longest runs of them are handed out, is this project's own.
-use Rattle.std.specs.Prelude.{◌≡◌, ◌↔◌, ℕ, ◌+◌, ◌-◌, ◌<◌, ◌≤◌, ◌==◌, ◌&&◌, Bool, true, false, not, nat_lt, if◌then◌else◌, List, [], ◌∷◌, length, take, drop, map, filter, sum_by}
+use Rattle.std.specs.Prelude.{◌≡◌, ◌↔◌, ℕ, ◌+◌, ◌-◌, ◌<◌, ◌≤◌, ◌==◌, ◌&&◌, Bool, not, nat_lt, if◌then◌else◌, List, [], ◌∷◌, length, take, drop, map, filter, sum_by}
 use Rattle.std.specs.List.{range_with_len}
 use Rattle.text_defs.specs.Text.{norm, line_count}
 use Rattle.text_defs.specs.Batch.{TextEdit, is_touched}

@@ -1,4 +1,5 @@
--- Line ends that are read one character after the other.
+-- Line ends that are read one character after the other: the same ends as in a whole file, which are this
+-- project's own.
 use Rattle.std.specs.Prelude.{ℕ, ◌==◌, List, [], ◌∷◌, if◌then◌else◌}
 use Rattle.text_defs.specs.Text.{norm, without_mark}
 use Rattle.line_text.specs.declared.before.Before.{Before}

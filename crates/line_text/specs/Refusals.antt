@@ -1,4 +1,4 @@
--- Which refusals say something of what was handed in.
+-- Which refusals say something of what was handed in. That want of memory doesn't is this project's own.
 use Rattle.std.specs.Prelude.{Bool, true, false}
 use Rattle.line_text.specs.declared.read.TextRefusal.{TextRefusal}
 use Rattle.line_text.specs.declared.read.TextRefusal.TheVariants.{NotUtf8, TooManyChars, TooManyLines, Memory}

@@ -1,4 +1,4 @@
--- Runs of lines.
+-- Runs of lines, which are this project's own.
 use Rattle.std.specs.Prelude.{ℕ, ◌-◌, nat_lt, if◌then◌else◌, List, [], ◌∷◌}
 use Rattle.line_text.specs.declared.carry.Run.{Run}
 

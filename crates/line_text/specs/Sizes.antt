@@ -1,4 +1,4 @@
--- The size of a text, counted in 64 bits.
+-- The size of a text, counted in 64 bits. That a count stays at the largest number there is this project's own.
 use Rattle.std.specs.Prelude.{◌≡◌, ℕ, List, length}
 use Rattle.text_defs.specs.Text.{line_count}
 use Rattle.text_defs.specs.Batch.{counted}

@@ -39,7 +39,7 @@ impl Text {
         self.holds(span.from) && self.holds(span.to) && !is_before(span.to, span.from)
     }
 
-    /// Whether each edit is in range and in order.
+    /// Whether each edit is in range and in order; else what is wrong with the first that isn't.
     fn check_edits(&self, edits: &[Edit]) -> Result<(), EditRefusal>
         ensures ok { OnOk result (edit_fault self.now None 0 edits.now ≡ None) }
         ensures refused { IfErr result (HasCause (edit_fault self.now None 0 edits.now)) }
@@ -171,7 +171,7 @@ impl Text {
         Ok(carry)
     }
 
-    /// The text after a batch of edits, and the lines that it carries.
+    /// The text after a batch of edits, and the lines that it carries. Both texts share those lines.
     ///
     /// All spans are places of this text, and all are replaced at once.
     pub fn edited(&self, alloc: Global, edits: &[Edit]) -> Result<Edited, EditRefusal>
@@ -189,12 +189,8 @@ impl Text {
         if size.lines > MOST_LINES {
             return Err(EditRefusal::TooManyLines { count: size.lines });
         }
-        let carry = self
-            .carry_after(alloc, edits)
-            .map_err(EditRefusal::Memory)?;
-        let draft = self
-            .draft_after(alloc, edits)
-            .map_err(EditRefusal::Memory)?;
+        let carry = self.carry_after(alloc, edits).map_err(EditRefusal::Memory)?;
+        let draft = self.draft_after(alloc, edits).map_err(EditRefusal::Memory)?;
         let text = draft
             .finish(size.chars as u32)
             .map_err(EditRefusal::Memory)?;
@@ -261,27 +257,76 @@ mod tests {
 
     #[test]
     fn batches_make_texts(rt: HostRuntime) -> Result<(), Fail> {
-        let rows: [(&str, &[((u32, u32, u32, u32), &str)], &str, &[(u32, u32, u32)]); 12] = [
+        let rows: [(
+            &str,
+            &[((u32, u32, u32, u32), &str)],
+            &str,
+            &[(u32, u32, u32)],
+        ); 12] = [
             // An insertion at the very start.
             ("\na ) b", &[((0, 0, 0, 0), "(")], "(|a ) b|", &[(1, 1, 1)]),
             // Both spans are places of the text before the batch.
-            ("((()))", &[((0, 0, 0, 0), "["), ((0, 6, 0, 6), "]")], "[((()))]|", &[]),
-            ("abc", &[((0, 0, 0, 1), "x"), ((0, 2, 0, 3), "yy")], "xbyy|", &[]),
+            (
+                "((()))",
+                &[((0, 0, 0, 0), "["), ((0, 6, 0, 6), "]")],
+                "[((()))]|",
+                &[],
+            ),
+            (
+                "abc",
+                &[((0, 0, 0, 1), "x"), ((0, 2, 0, 3), "yy")],
+                "xbyy|",
+                &[],
+            ),
             // An edit where the one before it ends, and two insertions at one place.
-            ("abc", &[((0, 0, 0, 1), "x"), ((0, 1, 0, 2), "y")], "xyc|", &[]),
-            ("abc", &[((0, 1, 0, 1), "x"), ((0, 1, 0, 1), "y")], "axybc|", &[]),
+            (
+                "abc",
+                &[((0, 0, 0, 1), "x"), ((0, 1, 0, 2), "y")],
+                "xyc|",
+                &[],
+            ),
+            (
+                "abc",
+                &[((0, 1, 0, 1), "x"), ((0, 1, 0, 1), "y")],
+                "axybc|",
+                &[],
+            ),
             // An empty batch carries all.
             ("a\nb\n", &[], "a|b||", &[(0, 0, 3)]),
             // The line ends of an edit's text are those of files.
-            ("ab\nc\nd", &[((0, 1, 0, 1), "\r\n\r\n\r")], "a|||b|c|d|", &[(1, 4, 2)]),
+            (
+                "ab\nc\nd",
+                &[((0, 1, 0, 1), "\r\n\r\n\r")],
+                "a|||b|c|d|",
+                &[(1, 4, 2)],
+            ),
             // Each edit's text is read by itself.
-            ("ab", &[((0, 1, 0, 1), "\r"), ((0, 1, 0, 1), "\n")], "a||b|", &[]),
+            (
+                "ab",
+                &[((0, 1, 0, 1), "\r"), ((0, 1, 0, 1), "\n")],
+                "a||b|",
+                &[],
+            ),
             // A mark at an edit's start stays.
             ("ab", &[((0, 1, 0, 1), "\u{feff}")], "a\u{feff}b|", &[]),
             // Lines are joined, and the rest goes up.
-            ("a\nb\nc\nd\ne", &[((1, 0, 2, 1), "")], "a||d|e|", &[(0, 0, 1), (3, 2, 2)]),
+            (
+                "a\nb\nc\nd\ne",
+                &[((1, 0, 2, 1), "")],
+                "a||d|e|",
+                &[(0, 0, 1), (3, 2, 2)],
+            ),
             // Several spans on one line, and the lines between two.
-            ("ab\nc\nd\nef\ng", &[((0, 0, 0, 1), ""), ((0, 2, 1, 0), "x\ny"), ((3, 0, 3, 0), "\n")], "bx|yc|d||ef|g|", &[(2, 2, 1), (4, 5, 1)]),
+            (
+                "ab\nc\nd\nef\ng",
+                &[
+                    ((0, 0, 0, 1), ""),
+                    ((0, 2, 1, 0), "x\ny"),
+                    ((3, 0, 3, 0), "\n"),
+                ],
+                "bx|yc|d||ef|g|",
+                &[(2, 2, 1), (4, 5, 1)],
+            ),
             // All of the text is replaced.
             ("a\nb", &[((0, 0, 1, 1), "")], "|", &[]),
         ];
@@ -303,6 +348,98 @@ mod tests {
             }
             assert_eq!(rt; beside.carry.as_slice().len(), runs.len());
         }
+        Ok(())
+    }
+
+    #[test]
+    fn refused_batches_leave_the_text(rt: HostRuntime) -> Result<(), Fail> {
+        let rows: [(&str, &[((u32, u32, u32, u32), &str)], &str); 8] = [
+            (
+                "abc",
+                &[((0, 2, 0, 3), "q"), ((0, 0, 0, 1), "q")],
+                "Order { index: 1 }",
+            ),
+            ("abc", &[((0, 9, 0, 9), "q")], "Range { index: 0 }"),
+            // A column may be that behind the last character, and no later one.
+            ("ab\ncd", &[((0, 2, 0, 3), "q")], "Range { index: 0 }"),
+            ("ab\ncd", &[((1, 2, 2, 0), "q")], "Range { index: 0 }"),
+            // The end is before the start.
+            ("abc", &[((0, 2, 0, 1), "q")], "Range { index: 0 }"),
+            // At one edit the range is tested first.
+            (
+                "abc",
+                &[((0, 2, 0, 2), "q"), ((0, 1, 0, 9), "q")],
+                "Range { index: 1 }",
+            ),
+            // Of two edits the earlier one is named.
+            (
+                "abc",
+                &[
+                    ((0, 1, 0, 2), "q"),
+                    ((0, 1, 0, 2), "q"),
+                    ((9, 0, 9, 0), "q"),
+                ],
+                "Order { index: 1 }",
+            ),
+            // The first edits of the batch aren't made.
+            (
+                "abc",
+                &[((0, 0, 0, 1), "x"), ((0, 2, 0, 9), "y")],
+                "Range { index: 1 }",
+            ),
+        ];
+        for (before, row, refusal) in rows {
+            let mut text = Text::from_bytes(rt.alloc(), before.as_bytes())?;
+            let whole = shown(rt.alloc(), &text)?;
+            let edits = batch(rt.alloc(), row)?;
+            match text.edited(rt.alloc(), edits.as_slice()) {
+                Ok(_) => panic!(rt; "a batch was taken"),
+                Err(fault) => {
+                    assert_eq!(rt; format!(in rt.alloc(); "{fault:?}")?.as_str(), refusal);
+                }
+            }
+            match text.apply(rt.alloc(), edits.as_slice()) {
+                Ok(_) => panic!(rt; "a batch was taken"),
+                Err(fault) => {
+                    assert_eq!(rt; format!(in rt.alloc(); "{fault:?}")?.as_str(), refusal);
+                }
+            }
+            assert_eq!(rt; shown(rt.alloc(), &text)?.as_str(), whole.as_str());
+        }
+        Ok(())
+    }
+
+    /// A text of so many copies of a character.
+    fn copies(alloc: Global, c: char, count: u32) -> Result<String, AllocError> {
+        let mut text = String::new(alloc);
+        for _ in 0..count {
+            text.push(c)?;
+        }
+        Ok(text)
+    }
+
+    #[test]
+    fn limits_are_the_last_that_is_taken(rt: HostRuntime) -> Result<(), Fail> {
+        let mut text = Text::from_bytes(rt.alloc(), b"")?;
+        let too_many = copies(rt.alloc(), '\n', 262_144)?;
+        let edits = batch(rt.alloc(), &[((0, 0, 0, 0), too_many.as_str())])?;
+        match text.apply(rt.alloc(), edits.as_slice()) {
+            Err(EditRefusal::TooManyLines { count }) => assert_eq!(rt; count, 262_145),
+            _ => panic!(rt; "a batch wasn't refused"),
+        }
+        let most = copies(rt.alloc(), '\n', 262_143)?;
+        let edits = batch(rt.alloc(), &[((0, 0, 0, 0), most.as_str())])?;
+        let _carry = text.apply(rt.alloc(), edits.as_slice())?;
+        assert_eq!(rt; text.lines(), 262_144);
+
+        let most = copies(rt.alloc(), 'a', 4_194_304)?;
+        let mut text = Text::from_bytes(rt.alloc(), most.as_bytes())?;
+        let edits = batch(rt.alloc(), &[((0, 7, 0, 7), "a")])?;
+        match text.apply(rt.alloc(), edits.as_slice()) {
+            Err(EditRefusal::TooManyChars { count }) => assert_eq!(rt; count, 4_194_305),
+            _ => panic!(rt; "a batch wasn't refused"),
+        }
+        assert_eq!(rt; text.chars(), 4_194_304);
         Ok(())
     }
 }

@@ -12,7 +12,7 @@ pub struct Run {
     pub count: u32,
 }
 
-/// The lines that a batch carries, in runs.
+/// The lines that a batch carries, in runs that are as long as possible.
 #[derive(Debug, Drop)]
 pub struct Carry {
     runs: Vec<Run>,

@@ -1,5 +1,4 @@
-ghost use Rattle.std.specs.Prelude.{◌≡◌, ◌≤◌, ℕ, List, [], ◌∷◌, ◌++◌, length, OnOk, IfOk};
-ghost use Rattle.std.specs.Prelude.{◌-◌, take, drop};
+ghost use Rattle.std.specs.Prelude.{◌≡◌, ◌-◌, ◌≤◌, ℕ, List, [], ◌∷◌, ◌++◌, length, take, drop, OnOk, IfOk};
 ghost use Rattle.std.specs.Option.{option_map};
 ghost use Rattle.std.specs.Rc.{rc_value};
 ghost use Rattle.std.specs.Str.{chars};
@@ -75,7 +74,12 @@ impl Draft {
     }
 
     /// Adds a part of a line of another text. A whole line is shared where it begins the open line.
-    pub(crate) fn put_part(&mut self, line: &Rc<Line>, from: usize, to: usize) -> Result<(), AllocError>
+    pub(crate) fn put_part(
+        &mut self,
+        line: &Rc<Line>,
+        from: usize,
+        to: usize,
+    ) -> Result<(), AllocError>
         requires rises { from ≤ to }
         requires within { to ≤ length line.now.value }
         requires no_lf { IsLine line.now.value }

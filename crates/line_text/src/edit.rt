@@ -48,7 +48,7 @@ impl Edit {
     }
 }
 
-/// Why a batch of edits is refused. An index is that of an edit, from 0, and a count is what the new text
+/// Why a batch of edits is refused, by this project's own rules. An index is that of an edit, from 0, and a count is what the new text
 /// would have; a count that no u64 holds is the largest u64.
 #[derive(Debug, Drop, Error)]
 pub enum EditRefusal {

@@ -1,4 +1,7 @@
 //! A text kept as lines, and the batches of edits that change it.
+//!
+//! Which ends a line has, what a place is and how a batch replaces its spans is this project's own; the
+//! definitions stand in `text_defs`, and those of the lines that a batch carries in `specs/Carried`.
 #![tactic(auto)]
 
 pub mod batch;

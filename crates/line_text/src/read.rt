@@ -9,7 +9,8 @@ use crate::text::Text;
 use std::alloc::{AllocError, Global};
 use thiserror::Error;
 
-/// Why a file is no text.
+/// Why a file is no text. `at` is the place of the first byte that begins no character, and a count is what
+/// the text would have. The limits and their order are this project's own.
 #[derive(Debug, Drop, Error)]
 pub enum TextRefusal {
     #[error("NotUtf8")]
@@ -63,9 +64,7 @@ impl Text {
         draft
             .put_text(text, Before::FileStart)
             .map_err(TextRefusal::Memory)?;
-        draft
-            .finish(size.chars as u32)
-            .map_err(TextRefusal::Memory)
+        draft.finish(size.chars as u32).map_err(TextRefusal::Memory)
     }
 }
 
@@ -97,7 +96,11 @@ mod tests {
             ("\u{feff}\u{feff}a".as_bytes(), "\u{feff}a|", 2),
             ("\u{feff}".as_bytes(), "|", 0),
             ("a\u{feff}".as_bytes(), "a\u{feff}|", 2),
-            ("\u{e9}\n\u{20ac}\r\n\u{1f600}".as_bytes(), "\u{e9}|\u{20ac}|\u{1f600}|", 5),
+            (
+                "\u{e9}\n\u{20ac}\r\n\u{1f600}".as_bytes(),
+                "\u{e9}|\u{20ac}|\u{1f600}|",
+                5,
+            ),
             (b"\xEF\xBB\xBF\r\nx", "|x|", 2),
         ];
         for (file, lines, chars) in rows {

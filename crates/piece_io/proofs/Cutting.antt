@@ -5,7 +5,7 @@ use Rattle.std.proofs.Math.Seq.{take-add}
 use Rattle.std.proofs.lemmas.List.{take-append-drop, drop-drop, drop_more, get_or-drop}
 use Rattle.std.proofs.lemmas.Bool.{eqb-true, ltb-true, lt-ltb}
 use Rattle.memchr.specs.Find.{IsFirstByte, Nowhere, Passes, is_byte}
-use Rattle.piece_io.specs.CutLaws.{lines_of-append, joined, HasLine, lines_of-has}
+use Rattle.piece_io.specs.CutLaws.{lines_of-append, joined, HasLine, HasCut, lines_of-has}
 use Rattle.piece_io.specs.Cuts.{cut_of, cuts_of, most_in_line, first_cut}
 use Rattle.piece_io.specs.Pending.{IsOneLine, EndsLine, over_first, pending}
 use Rattle.piece_io.specs.declared.line_cutter.Cut.{Cut}
@@ -89,10 +89,6 @@ fed [] lines = []
 fed (cut ∷ []) lines = grown cut lines
 fed (cut ∷ next ∷ rest) lines = cut ∷ fed (next ∷ rest) lines
 
-abbrev HasCut : List Cut → Type 0
-HasCut [] = ⊥
-HasCut (cut ∷ rest) = Unit {0}
-
 longer-cut_of-by : (b : Bool) (line more : List ℕ) → nat_lt most_in_line (length line) ≡ b
     → longer (if b then TooLong else Line line) more ≡ cut_of (line ++ more)
 unfolding longer
@@ -129,6 +125,14 @@ fed-append (cut ∷ next ∷ rest) cuts later h = ap (λ cuts. cut ∷ cuts) (fe
 pending-has-by : (over : Bool) (lines : List (List ℕ)) → HasLine lines → HasCut (over_first over (map cut_of lines))
 pending-has-by over [] h = absurd h
 pending-has-by over (line ∷ rest) h = tt
+
+pub pending-has : (over : Bool) (left : List ℕ) → HasCut (pending over left)
+pending-has over left = pending-has-by over (lines_of left) (lines_of-has left)
+
+-- whatever a call answers
+pub on_ok : {T E P : Type 0} (r : Result T E) → P → OnOk r P
+on_ok (Ok t) p = p
+on_ok (Err e) p = tt
 
 cuts_of-fed : (bytes piece : List ℕ) → cuts_of (bytes ++ piece) ≡ fed (cuts_of bytes) (lines_of piece)
 cuts_of-fed bytes piece =

@@ -1,7 +1,11 @@
--- Laws of lines, for those who take a text piece by piece.
-use Rattle.std.specs.Prelude.{◌≡◌, ℕ, ◌==◌, List, [], ◌∷◌, ◌++◌, Bool, true, false, refl, if◌then◌else◌}
+-- Laws of lines and of what is handed out for them, for those who take a text piece by piece.
+use Rattle.std.specs.Prelude.{◌≡◌, ℕ, ◌==◌, List, [], ◌∷◌, ◌++◌, length, map, Bool, true, false, refl, if◌then◌else◌, nat_lt, None, MatchOption}
 use Rattle.std.proofs.Common.{sym, ◌∙◌, ap}
+use Rattle.std.proofs.lemmas.List.{append-nil, map-append}
 use Rattle.text_defs.specs.Text.{lines_of, onto_first, before_lines, all_but_last, last_line, whole_lines, unfinished}
+use Rattle.piece_io.specs.Cuts.{Cutting, cut_of, cuts_of, whole_cuts, all_cuts, cut_if_any, most_in_line, last_cut, first_cut, next_cut, last_to_come, to_come_of, to_come}
+use Rattle.piece_io.specs.declared.line_cutter.Cut.{Cut}
+use Rattle.piece_io.specs.declared.line_cutter.Cut.TheVariants.{Line, TooLong}
 
 -- the lines of two texts, one behind the other: the last of the first goes on as the first of the second
 abbrev pub joined : List (List ℕ) → List (List ℕ) → List (List ℕ)
@@ -106,3 +110,65 @@ whole_lines-append xs ys =
 pub unfinished-append : (xs ys : List ℕ) → unfinished (xs ++ ys) ≡ unfinished (unfinished xs ++ ys)
 unfinished-append xs ys =
     ap last_line (lines_of-more xs ys) ∙ last_line-append (whole_lines xs) (lines_of (unfinished xs ++ ys)) (lines_of-has (unfinished xs ++ ys))
+
+-- there is a line that is not handed out, the unfinished one
+abbrev pub HasCut : List Cut → Type 0
+HasCut [] = ⊥
+HasCut (cut ∷ rest) = Unit {0}
+
+pub cuts_of-split : (bytes : List ℕ) → cuts_of bytes ≡ whole_cuts bytes ++ cut_of (unfinished bytes) ∷ []
+cuts_of-split bytes = ap (map cut_of) (lines_of-split bytes) ∙ map-append cut_of (whole_lines bytes) (unfinished bytes ∷ [])
+
+to_come-append : (front cuts : List Cut) (ended : Bool) → HasCut cuts → to_come_of (front ++ cuts) ended ≡ front ++ to_come_of cuts ended
+to_come-append [] cuts ended h = refl
+to_come-append (cut ∷ []) [] ended h = absurd h
+to_come-append (cut ∷ []) (next ∷ later) ended h = refl
+to_come-append (cut ∷ next ∷ rest) cuts ended h = ap (λ cuts. cut ∷ cuts) (to_come-append (next ∷ rest) cuts ended h)
+
+-- the unfinished line is not handed out while more may come
+last_cut-open : (cut : Cut) → last_cut cut false ≡ None
+last_cut-open TooLong = refl
+last_cut-open (Line []) = refl
+last_cut-open (Line (b ∷ bytes)) = refl
+
+-- once nothing more comes it is, if it has a byte
+last_cut-by : (b : Bool) (byte : ℕ) (bytes : List ℕ)
+    → last_to_come (last_cut (if b then TooLong else Line (byte ∷ bytes)) true) ≡ (if b then TooLong else Line (byte ∷ bytes)) ∷ []
+last_cut-by true byte bytes = refl
+last_cut-by false byte bytes = refl
+
+last_cut-ended : (line : List ℕ) → last_to_come (last_cut (cut_of line) true) ≡ cut_if_any line
+last_cut-ended [] = refl
+last_cut-ended (byte ∷ bytes) = last_cut-by (nat_lt most_in_line (length (byte ∷ bytes))) byte bytes
+
+-- what was handed out, and what is to come, while more may come
+pub to_come-open : (handed_out cuts : List Cut) (bytes : List ℕ) → HasCut cuts → handed_out ++ cuts ≡ cuts_of bytes
+    → handed_out ++ to_come_of cuts false ≡ whole_cuts bytes
+to_come-open handed_out cuts bytes h is =
+    sym (to_come-append handed_out cuts false h) ∙ ap (λ cuts. to_come_of cuts false) (is ∙ cuts_of-split bytes)
+    ∙ to_come-append (whole_cuts bytes) (cut_of (unfinished bytes) ∷ []) false tt
+    ∙ ap (λ last. whole_cuts bytes ++ last_to_come last) (last_cut-open (cut_of (unfinished bytes)))
+    ∙ append-nil (whole_cuts bytes)
+
+-- what was handed out, and what is to come, once nothing more comes
+pub to_come-ended : (handed_out cuts : List Cut) (bytes : List ℕ) → HasCut cuts → handed_out ++ cuts ≡ cuts_of bytes
+    → handed_out ++ to_come_of cuts true ≡ all_cuts bytes
+to_come-ended handed_out cuts bytes h is =
+    sym (to_come-append handed_out cuts true h) ∙ ap (λ cuts. to_come_of cuts true) (is ∙ cuts_of-split bytes)
+    ∙ to_come-append (whole_cuts bytes) (cut_of (unfinished bytes) ∷ []) true tt
+    ∙ ap (λ last. whole_cuts bytes ++ last) (last_cut-ended (unfinished bytes))
+
+-- the next line is the first of those to come
+next-to_come : (cuts : List Cut) (ended : Bool)
+    → MatchOption (first_cut cuts ended) (to_come_of cuts ended ≡ []) (λ next. to_come_of cuts ended ≡ next.0 ∷ to_come next.1)
+next-to_come [] ended = refl
+next-to_come (TooLong ∷ []) false = refl
+next-to_come (TooLong ∷ []) true = refl
+next-to_come (Line [] ∷ []) false = refl
+next-to_come (Line [] ∷ []) true = refl
+next-to_come (Line (b ∷ bytes) ∷ []) false = refl
+next-to_come (Line (b ∷ bytes) ∷ []) true = refl
+next-to_come (cut ∷ next ∷ later) ended = refl
+
+pub to_come-next : (c : Cutting) → MatchOption (next_cut c) (to_come c ≡ []) (λ next. to_come c ≡ next.0 ∷ to_come next.1)
+to_come-next c = next-to_come c.cuts c.ended

@@ -1,6 +1,9 @@
 pub mod CutLaws
+pub mod CutRuns
 pub mod Cuts
+pub mod Examples
 pub mod FileEnds
 pub mod Mem
+pub mod MemFiles
 pub mod Pending
 pub mod Told

@@ -1,5 +1,5 @@
 -- Objects in memory: which of their calls fail, and what each call moves. The rules are this project's own.
-use Rattle.std.specs.Prelude.{◌≡◌, ℕ, ◌+◌, ◌-◌, ◌<◌, ◌≤◌, ◌⊎◌, List, ◌++◌, length, take, drop, min, Contains}
+use Rattle.std.specs.Prelude.{ℕ, ◌-◌, ◌≤◌, List, ◌++◌, length, drop, min, Contains}
 use Rattle.piece_io.specs.Told.{risen}
 
 -- the numbers, from 1, of the calls that are to fail, and how many calls were made

@@ -1,4 +1,5 @@
 ghost use Rattle.std.specs.Prelude.{◌≡◌, ◌↔◌, ◌≤◌, ◌++◌, IsTrue, Contains, IfOk, List, length, take, drop};
+ghost use Rattle.piece_io.specs.Told.{risen};
 ghost use Rattle.piece_io.specs.Mem.{IsNextFailing, called};
 
 use std::alloc::{AllocError, Global};
@@ -35,7 +36,7 @@ impl CallList {
         ensures answer { IsTrue result ↔ IsNextFailing self.old }
         ensures state { self.new ≡ called self.old }
     {
-        self.made = self.made.saturating_add(1);
+        self.made = one_more(self.made);
         is_listed(&self.failing, self.made)
     }
 }
@@ -44,6 +45,14 @@ fn is_listed(numbers: &[u32], call: u64) -> bool
     ensures { IsTrue result ↔ Contains numbers.now call }
 {
     numbers.iter().any(|number| u64::from(*number) == call)
+}
+
+/// A count after one more. It stays at the largest number.
+pub fn one_more(count: u64) -> u64
+    ensures value { result ≡ risen count }
+    ensures not_less { count ≤ result }
+{
+    count.saturating_add(1)
 }
 
 /// Puts the first `size` of these bytes at the front of `into`.

@@ -5,6 +5,7 @@
 mod call_list;
 pub mod files;
 pub mod line_cutter;
+pub mod mem_files;
 pub mod mem_sink;
 pub mod mem_source;
 pub mod sink;
@@ -13,8 +14,12 @@ pub mod whole;
 
 pub use files::Files;
 pub use line_cutter::{Cut, LineCutter};
+pub use mem_files::MemFiles;
 pub use mem_sink::MemSink;
 pub use mem_source::MemSource;
 pub use sink::Sink;
 pub use source::{Failed, Source};
 pub use whole::{FileEnd, read_file, write_whole};
+
+#[cfg(test)]
+mod tests;

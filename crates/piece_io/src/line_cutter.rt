@@ -1,6 +1,8 @@
 ghost use Rattle.std.specs.Prelude.{◌≡◌, ℕ, ◌+◌, ◌<◌, ◌≤◌, ◌↔◌, IsTrue, List, [], ◌∷◌, ◌++◌, length, take, drop, false, true, Some, None, MatchOption, IfOk, OnOk, OnErr, if◌then◌else◌};
 ghost use Rattle.text_defs.specs.Text.{lines_of};
-ghost use Rattle.piece_io.specs.Cuts.{Cutting, cut_of, cuts_of, next_cut, most_in_line};
+ghost use Rattle.piece_io.specs.Cuts.{Cutting, cut_of, cuts_of, Feeds, next_cut, most_in_line};
+ghost use Rattle.piece_io.specs.CutLaws.{HasCut};
+ghost use Rattle.piece_io.specs.CutRuns.{EachLineOnceInOrder};
 ghost use Rattle.piece_io.specs.Pending.{IsOneLine, EndsLine, pending};
 
 use memchr::memchr;
@@ -18,8 +20,9 @@ pub enum Cut {
 /// The most bytes that a line may have.
 pub const MOST_IN_LINE: usize = 1_048_576;
 
-/// Cuts a stream of bytes into lines at each LF, in whatever pieces the stream comes. It keeps no bytes of a
-/// line that is too long, once all lines before it are handed out.
+/// Cuts a stream of bytes into lines at each LF, in whatever pieces the stream comes. Once the lines before it
+/// are handed out, what has come of a line that is too long is let go at the next feed, so that a stream without
+/// an LF takes no more room than a line and a piece.
 #[derive(Drop)]
 pub struct LineCutter {
     alloc: Global,
@@ -65,9 +68,9 @@ impl LineCutter {
     pub fn feed(&mut self, piece: &[u8]) -> Result<(), AllocError>
         requires { self.old.ended ≡ false }
         ensures ok { OnOk result ((bytes : List ℕ) → self.old.cuts ≡ cuts_of bytes → self.new.cuts ≡ cuts_of (bytes ++ piece.now)) }
-        ensures stream { OnOk result ((handed_out : List Cut) (bytes : List ℕ) → handed_out ++ self.old.cuts ≡ cuts_of bytes
-            → handed_out ++ self.new.cuts ≡ cuts_of (bytes ++ piece.now)) }
+        ensures stream { OnOk result (Feeds self.old piece.now self.new) }
         ensures ended { self.new.ended ≡ false }
+        ensures unfinished { OnOk result (HasCut self.new.cuts) }
         ensures err { OnErr result (self.new ≡ self.old) }
     {
         cut_front(&mut self.bytes, self.start);
@@ -97,6 +100,8 @@ impl LineCutter {
     pub fn next_line(&mut self) -> Result<Option<Cut>, AllocError>
         ensures line { IfOk result (λ r. MatchOption r ((next_cut self.old ≡ None) × (self.new ≡ self.old))
             (λ cut. next_cut self.old ≡ Some (cut, self.new))) }
+        ensures ended { self.new.ended ≡ self.old.ended }
+        ensures unfinished { HasCut self.new.cuts }
         ensures err { OnErr result (self.new ≡ self.old) }
     {
         let left = &self.bytes[self.start..];
@@ -122,6 +127,12 @@ impl LineCutter {
         }
     }
 }
+
+/// However a stream comes in pieces, and whenever lines are taken, the lines that are handed out are those of
+/// all its bytes, once each and in order.
+pub fn each_line_comes_once_in_order()
+    ensures { EachLineOnceInOrder }
+{}
 
 /// The bytes behind the first n.
 fn cut_front(bytes: &mut Vec<u8>, n: usize)

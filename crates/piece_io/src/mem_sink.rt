@@ -2,12 +2,11 @@ ghost use Rattle.std.specs.Prelude.{◌≡◌, ◌↔◌, ◌<◌, ◌≤◌, �
 ghost use Rattle.piece_io.specs.Mem.{IsNextFailing, IsFull, SinkState, write_size, after_write, after_failed_write};
 ghost use Rattle.piece_io.specs.Told.{appended, risen};
 
-use std::alloc::{AllocError, Global};
-use std::marker::Model;
-
-use crate::call_list::CallList;
+use crate::call_list::{CallList, one_more};
 use crate::sink::Sink;
 use crate::source::Failed;
+use std::alloc::{AllocError, Global};
+use std::marker::Model;
 
 /// A sink that keeps bytes in memory, in room that it takes when it is made. The calls of a list fail, and
 /// those where the room is full.
@@ -35,12 +34,7 @@ impl Model for MemSink {
 impl MemSink {
     /// A sink with room for so many bytes, of which each write takes at most `piece`. The writes with these
     /// numbers, counted from 1, fail.
-    pub fn new(
-        alloc: Global,
-        room: u32,
-        piece: u32,
-        failing: &[u32],
-    ) -> Result<MemSink, AllocError>
+    pub fn new(alloc: Global, room: u32, piece: u32, failing: &[u32]) -> Result<MemSink, AllocError>
         requires { 0 < piece }
         ensures held { IfOk result (λ s. s.held ≡ []) }
         ensures room { IfOk result (λ s. s.room ≡ room) }
@@ -87,7 +81,7 @@ impl Sink for MemSink {
         let is_listed = self.calls.next_fails();
         let left = self.room as usize - self.bytes.len();
         if is_listed || left == 0 {
-            self.faults = self.faults.saturating_add(1);
+            self.faults = one_more(self.faults);
             return Err(Failed);
         }
         let size = piece.len().min(left).min(self.piece as usize);

@@ -2,11 +2,10 @@ ghost use Rattle.std.specs.Prelude.{◌≡◌, ◌↔◌, ◌<◌, ◌≤◌, �
 ghost use Rattle.piece_io.specs.Mem.{IsNextFailing, SourceState, read_size, after_read, after_failed_read};
 ghost use Rattle.piece_io.specs.Told.{GivesFront, risen};
 
+use crate::call_list::{CallList, one_more, put_front};
+use crate::source::{Failed, Source};
 use std::alloc::{AllocError, Global};
 use std::marker::Model;
-
-use crate::call_list::{CallList, put_front};
-use crate::source::{Failed, Source};
 
 /// A source that gives bytes from memory, a piece at a time. The calls of a list fail.
 #[derive(Drop)]
@@ -74,7 +73,7 @@ impl Source for MemSource {
         ensures never_falls { self.old.faults ≤ self.new.faults }
     {
         if self.calls.next_fails() {
-            self.faults = self.faults.saturating_add(1);
+            self.faults = one_more(self.faults);
             return Err(Failed);
         }
         let left = &self.bytes[self.taken..];

@@ -1,9 +1,8 @@
-use Rattle.std.proofs.Common.{◌≡◌, ℕ, List, [], ◌∷◌, ◌++◌, Some, None, ap, sym, ◌∙◌, refl}
-use Rattle.std.specs.Str.Iter.{chars_rest}
+use Rattle.std.proofs.Common.{[], ◌∷◌, ◌++◌, Some, None}
 use Rattle.std.proofs.lemmas.List.{append-nil}
 use Rattle.std.proofs.lemmas.Str.{IsUtf8-past_char}
 use Rattle.line_text.proofs.NormedText.{normed_step, normed_end, Takes}
-use Rattle.line_text.proofs.CountedSizes.{IsSizeOf-push, IsSizeOf-nil}
+use Rattle.line_text.proofs.CountedSizes.{IsSizeOf-push}
 use Rattle.line_text.proofs.size.size_of.Goals as goal
 
 pub loop-c-preserved-in-Some-take : goal.loop-c-preserved-in-Some-take
@@ -13,8 +12,11 @@ loop-c-preserved-in-Some-take c =
     let had = c.loop-c.invariant.counted in
     record {
       rest_utf8 = IsUtf8-past_char _ _ _ c.loop-c.invariant.rest_utf8 step;
-      counted = (had.0 ++ c.in-Some-take.added ∷ [], IsSizeOf-push had.0 c.in-Some-take.added c.loop-c.size c.count.new.self had.1 c.count.ensures.chars c.count.ensures.lines,
-        normed_step _ _ _ _ _ _ _ _ c.loop-c.invariant.rest_utf8 step takes had.2)
+      counted = (
+        had.0 ++ c.in-Some-take.added ∷ [],
+        IsSizeOf-push had.0 c.in-Some-take.added c.loop-c.size c.count.new.self had.1 c.count.ensures.chars c.count.ensures.lines,
+        normed_step _ _ _ _ _ _ _ _ c.loop-c.invariant.rest_utf8 step takes had.2,
+      );
     }
 
 pub loop-c-preserved : goal.loop-c-preserved
@@ -24,7 +26,7 @@ loop-c-preserved c =
     let had = c.loop-c.invariant.counted in
     record {
       rest_utf8 = IsUtf8-past_char _ _ _ c.loop-c.invariant.rest_utf8 step;
-      counted = (had.0, had.1, rw (← append-nil had.0) (normed_step _ _ _ _ _ _ _ _ c.loop-c.invariant.rest_utf8 step takes had.2))
+      counted = (had.0, had.1, rw (← append-nil had.0) (normed_step _ _ _ _ _ _ _ _ c.loop-c.invariant.rest_utf8 step takes had.2));
     }
 
 pub returns : goal.returns

@@ -1,6 +1,6 @@
-use Rattle.std.proofs.Common.{◌≡◌, ◌<◌, ◌+◌, [], ◌∷◌, length-append, length, map, ◌∙◌, ap, sym, arith}
+use Rattle.std.proofs.Common.{◌<◌, ◌+◌, [], ◌∷◌, length-append, length, ◌∙◌, ap, arith}
 use Rattle.text_defs.specs.Text.{lines_of, line_count}
-use Rattle.bracket_lex.specs.MarkedLine.{MarkedLine, marks_in, text_end, marked_line}
+use Rattle.bracket_lex.specs.MarkedLine.{marks_in, text_end}
 use Rattle.bracket_lex.proofs.MarkedTexts.{lines_more, lines_all, marks_in-marked, text_end-marked, text_few}
 use Rattle.bracket_lex.proofs.mark_lines.MarkLines.of_text.Goals as goal
 

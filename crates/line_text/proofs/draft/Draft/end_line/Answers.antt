@@ -2,7 +2,7 @@ use Rattle.std.proofs.Common.{◌≡◌, ℕ, List, [], ◌∷◌, ◌++◌, map
 use Rattle.std.specs.Rc.{rc_value}
 use Rattle.std.specs.Option.{option_map}
 use Rattle.std.proofs.lemmas.List.{map_push, append-nil}
-use Rattle.line_text.specs.Lines.{ended, chars_of, AreLines}
+use Rattle.line_text.specs.Lines.{chars_of}
 use Rattle.line_text.proofs.JoinedLines.{AreLines-push, IsLine-append, ended-push}
 use Rattle.line_text.proofs.draft.Draft.end_line.Goals as goal
 use Rattle.line_text.proofs.draft.Draft.end_line.Goals.{In_ok-push}

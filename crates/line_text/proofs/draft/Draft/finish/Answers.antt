@@ -3,7 +3,7 @@ use Rattle.std.specs.Rc.{rc_value}
 use Rattle.std.specs.Option.{option_map}
 use Rattle.std.proofs.lemmas.List.{map_push, length-append}
 use Rattle.text_defs.specs.Text.{lines_of}
-use Rattle.line_text.specs.Lines.{joined, chars_of, AreLines, IsKept}
+use Rattle.line_text.specs.Lines.{joined, chars_of, AreLines}
 use Rattle.line_text.proofs.JoinedLines.{AreLines-push, IsLine-append, joined-push, lines_of-joined}
 use Rattle.line_text.proofs.draft.Draft.finish.Goals as goal
 use Rattle.line_text.proofs.draft.Draft.finish.Goals.{In_ok-push}
@@ -30,7 +30,7 @@ of_lines-requires c =
       no_lf = no_lf;
       counted = c.requires.counted ∙ sym (ap length (is_text c));
       few_chars = c.requires.few_chars;
-      few_lines = omega (arith, ap length lines_are, c.requires.few_lines)
+      few_lines = omega (arith, ap length lines_are, c.requires.few_lines);
     }
 
 pub returns : goal.returns

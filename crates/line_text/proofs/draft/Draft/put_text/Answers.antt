@@ -1,5 +1,4 @@
-use Rattle.std.proofs.Common.{◌≡◌, ℕ, List, [], ◌∷◌, ◌++◌, Some, None, ap, sym, ◌∙◌, refl}
-use Rattle.std.specs.Str.Iter.{chars_rest}
+use Rattle.std.proofs.Common.{Some, None}
 use Rattle.std.proofs.lemmas.List.{append-nil}
 use Rattle.std.proofs.lemmas.Str.{IsUtf8-past_char}
 use Rattle.line_text.proofs.NormedText.{normed_step, normed_end, Takes}
@@ -11,7 +10,7 @@ loop-c-preserved-in-Continue-1 c =
     let takes : Takes c.loop-c.before c.in-Some.c (Some c.in-Some-take.added) c.take.new.self = record { adds = c.in-Some-take.ensures } in
     record {
       rest_utf8 = IsUtf8-past_char _ _ _ c.loop-c.invariant.rest_utf8 step;
-      added = rw c.in_ok-put.ensures (normed_step _ _ _ _ _ _ _ _ c.loop-c.invariant.rest_utf8 step takes c.loop-c.invariant.added)
+      added = rw c.in_ok-put.ensures (normed_step _ _ _ _ _ _ _ _ c.loop-c.invariant.rest_utf8 step takes c.loop-c.invariant.added);
     }
 
 pub loop-c-preserved : goal.loop-c-preserved
@@ -20,7 +19,7 @@ loop-c-preserved c =
     let takes : Takes c.loop-c.before c.in-Some.c None c.take.new.self = record { adds = c.in_default.ensures } in
     record {
       rest_utf8 = IsUtf8-past_char _ _ _ c.loop-c.invariant.rest_utf8 step;
-      added = rw (← append-nil c.loop-c.self) (normed_step _ _ _ _ _ _ _ _ c.loop-c.invariant.rest_utf8 step takes c.loop-c.invariant.added)
+      added = rw (← append-nil c.loop-c.self) (normed_step _ _ _ _ _ _ _ _ c.loop-c.invariant.rest_utf8 step takes c.loop-c.invariant.added);
     }
 
 pub returns : goal.returns

@@ -1,23 +1,23 @@
-use Rattle.std.proofs.Common.{◌≡◌, ◌+◌, ◌-◌, ◌≤◌, ◌<◌, ◌++◌, ◌^◌, ℕ, List, drop, ap, sym, ◌∙◌, arith, append_assoc, refl, Fits}
+use Rattle.std.proofs.Common.{◌≡◌, ◌+◌, ◌-◌, ◌≤◌, ◌++◌, ap, ◌∙◌, arith, refl}
 use Rattle.std.proofs.lemmas.List.{drop_all}
 use Rattle.text_defs.specs.Text.{norm, line_count}
 use Rattle.text_defs.specs.Batch.{edited}
 use Rattle.line_text.specs.Sizes.{IsSizeOf}
 use Rattle.line_text.specs.Runs.{run_between}
-use Rattle.line_text.proofs.CarriedRuns.{gaps, gaps-carried, IsAtGap, IsAtGap-origin, GapStep, gap_step, listed_step}
+use Rattle.line_text.proofs.CarriedRuns.{gaps-carried, IsAtGap-origin, GapStep, gap_step, listed_step}
 use Rattle.line_text.proofs.text.Text.carry_after.Goals as goal
 use Rattle.line_text.proofs.text.Text.carry_after.Goals.{After-size_of-added}
 
 pub loop-edit-init : goal.loop-edit-init
 loop-edit-init c = record {
   gap = IsAtGap-origin c.args.self.now c.args.edits.now c.requires.valid;
-  listed = rw c.new-carry.ensures refl
+  listed = rw c.new-carry.ensures refl;
 }
 
 here : (c : After-size_of-added) → GapStep c.args.self.now (line_count (edited c.args.self.now c.args.edits.now)) c.args.edits.now c.loop-edit.edit-index c.span-span.result c.edit-item.result.text c.loop-edit.old c.loop-edit.new
 here c =
     gap_step c.args.self.now (line_count (edited c.args.self.now c.args.edits.now)) c.args.edits.now c.loop-edit.edit-index c.edit-item.result c.span-span.result c.loop-edit.old c.loop-edit.new
-      c.loop-edit.invariant.gap c.loop-edit-test.true c.edit-item.is c.span-span.ensures
+    c.loop-edit.invariant.gap c.loop-edit-test.true c.edit-item.is c.span-span.ensures
 
 -- the text's lines are few enough to be counted whole
 lines_are : (c : After-size_of-added) → (c.size_of-added.result.lines ≡ line_count (norm c.edit-item.result.text)) × (c.loop-edit.new + c.span-span.result.from.line - c.loop-edit.old + c.size_of-added.result.lines ≤ 262144)
@@ -50,7 +50,7 @@ loop-edit-preserved c =
     let l = lines_are start in
     rw (l.0) record {
       gap = step.next;
-      listed = listed_step c.loop-edit.carry c.add.new.self (run_between c.loop-edit.old c.span-span.result.from.line c.loop-edit.new) _ _ _ c.in_ok-add.ensures step.listed c.loop-edit.invariant.listed
+      listed = listed_step c.loop-edit.carry c.add.new.self (run_between c.loop-edit.old c.span-span.result.from.line c.loop-edit.new) _ _ _ c.in_ok-add.ensures step.listed c.loop-edit.invariant.listed;
     }
 
 pub returns : goal.returns

@@ -1,5 +1,5 @@
-use Rattle.std.proofs.Common.{◌≡◌, ◌+◌, ◌*◌, ◌≤◌, ◌<◌, ℕ, length, ap, arith, ◌∙◌}
-use Rattle.text_defs.specs.Text.{lines_of, line_in}
+use Rattle.std.proofs.Common.{◌≡◌, ◌+◌, ◌≤◌, ℕ, length, ap, arith, ◌∙◌}
+use Rattle.text_defs.specs.Text.{lines_of}
 use Rattle.line_text.proofs.Places.{start, start_next, IsPlace-holds, IsFrom-is_before, IsFrom-lines, offset_le}
 use Rattle.line_text.proofs.text.Text.chars_between.Goals as goal
 use Rattle.line_text.proofs.text.Text.chars_between.Goals.{After-from}
@@ -12,7 +12,7 @@ loop-n-preserved c =
     let line = ap (length {A = ℕ}) (c.chars.ensures ∙ c.line.ensures.line) in
     record {
       summed = omega (arith, start_next lines c.loop-n.n (omega arith), line, c.loop-n.invariant.summed);
-      bounded = omega (arith, line, ap (length {A = ℕ}) c.chars.ensures, c.line.ensures.few, c.loop-n.invariant.bounded)
+      bounded = omega (arith, line, ap (length {A = ℕ}) c.chars.ensures, c.line.ensures.few, c.loop-n.invariant.bounded);
     }
 
 fits : (c : After-from) → (c.args.from.col ≤ c.loop-n.chars) × (start (lines_of c.args.self.now) c.args.from.line + c.loop-n.chars ≡ start (lines_of c.args.self.now) c.args.to.line + c.args.to.col)

@@ -9,5 +9,5 @@ invariant-loop-n l = record {
   on_line : l.col ≤ length (line_in (lines_of l.self) l.n);
   before_end : l.n ≡ l.to.line → l.col ≤ l.to.col;
   copied : l.draft ++ piece (lines_of l.self) l.n l.col (start (lines_of l.self) l.to.line + l.to.col)
-    ≡ l.initial.draft ++ piece (lines_of l.self) l.fn.from.line l.fn.from.col (start (lines_of l.self) l.to.line + l.to.col)
+      ≡ l.initial.draft ++ piece (lines_of l.self) l.fn.from.line l.fn.from.col (start (lines_of l.self) l.to.line + l.to.col);
 }

@@ -8,5 +8,5 @@ abbrev pub invariant-loop-edit : goal.invariant-loop-edit
 invariant-loop-edit l = record {
   there : holds l.self l.at ≡ true;
   valid : edit_fault l.self (Some l.at) 0 (drop l.edit-index l.edits) ≡ None;
-  built : l.draft ++ replaced l.self (offset_of l.self l.at) (drop l.edit-index l.edits) ≡ edited l.self l.edits
+  built : l.draft ++ replaced l.self (offset_of l.self l.at) (drop l.edit-index l.edits) ≡ edited l.self l.edits;
 }

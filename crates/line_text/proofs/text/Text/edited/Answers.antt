@@ -1,7 +1,6 @@
-use Rattle.std.proofs.Common.{◌≡◌, ap, sym, ◌∙◌, subst, rules}
-use Rattle.text_defs.specs.Text.{lines_of}
+use Rattle.std.proofs.Common.{◌≡◌, rules}
 use Rattle.text_defs.specs.Batch.{edited}
-use Rattle.line_text.specs.Carried.{LeadsFrom, carried}
+use Rattle.line_text.specs.Carried.{carried}
 use Rattle.line_text.proofs.LeadingRuns.{LeadsFrom-carried}
 use Rattle.line_text.proofs.text.Text.edited.Goals as goal
 

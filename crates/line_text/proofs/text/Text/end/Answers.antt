@@ -1,4 +1,4 @@
-use Rattle.std.proofs.Common.{◌≡◌, ◌+◌, ◌-◌, ℕ, length, ap, sym, ◌∙◌, arith}
+use Rattle.std.proofs.Common.{◌≡◌, ◌+◌, ◌-◌, ℕ, length, ap, ◌∙◌, arith}
 use Rattle.line_text.proofs.Places.{start, offset_end}
 use Rattle.text_defs.specs.Text.{lines_of, line_count}
 use Rattle.line_text.proofs.text.Text.end.Goals as goal

@@ -1,8 +1,5 @@
-use Rattle.std.proofs.Common.{◌≡◌, ◌<◌, ℕ, List, [], ◌∷◌, ◌++◌, ◌^◌, length, ap, sym, ◌∙◌, arith, OnOk, Result, Ok, Err}
-use Rattle.std.specs.Str.{chars}
+use Rattle.std.proofs.Common.{◌≡◌, arith}
 use Rattle.text_defs.specs.Text.{text_of}
-use Rattle.line_text.specs.declared.before.Before.TheVariants.{FileStart}
-use Rattle.line_text.specs.LineEnds.{normed}
 use Rattle.line_text.specs.Sizes.{IsSizeOf}
 use Rattle.line_text.proofs.Outcomes.{on_ok}
 use Rattle.line_text.proofs.FileTexts.{has_too_many_chars, has_too_many_lines, has_text}

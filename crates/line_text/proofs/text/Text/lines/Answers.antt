@@ -1,7 +1,6 @@
-use Rattle.std.proofs.Common.{ℕ, map, length, List, sym, ap, ◌∙◌}
+use Rattle.std.proofs.Common.{map}
 use Rattle.std.specs.Rc.{rc_value}
 use Rattle.std.proofs.lemmas.List.{length-map}
-use Rattle.text_defs.specs.Text.{lines_of}
 use Rattle.line_text.proofs.JoinedLines.{lines_of-joined}
 use Rattle.line_text.proofs.text.Text.lines.Goals as goal
 

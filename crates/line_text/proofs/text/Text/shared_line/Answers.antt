@@ -1,9 +1,8 @@
-use Rattle.std.proofs.Common.{ℕ, ◌<◌, ◌≤◌, ◌≢◌, ◌≡◌, ◌^◌, All, map, length, List, [], sym, ap, ◌∙◌, get_or, arith}
+use Rattle.std.proofs.Common.{ℕ, ◌<◌, ◌≡◌, map, length, List, sym, ap, ◌∙◌, arith}
 use Rattle.std.specs.Rc.{rc_value}
 use Rattle.std.proofs.lemmas.List.{length-map, get_or-map}
-use Rattle.text_defs.specs.Text.{lines_of, line_of, line_in, line_count}
-use Rattle.line_text.specs.Lines.{joined}
-use Rattle.line_text.proofs.JoinedLines.{lines_of-joined, line_in-get_or, line_in-IsLine, All-IsLine, length-line_in}
+use Rattle.text_defs.specs.Text.{lines_of, line_in}
+use Rattle.line_text.proofs.JoinedLines.{lines_of-joined, line_in-get_or, line_in-IsLine, length-line_in}
 use Rattle.line_text.proofs.text.Text.shared_line.Goals as goal
 use Rattle.line_text.proofs.text.Text.shared_line.Goals.{After-self, After-index}
 

@@ -1,7 +1,6 @@
-use Rattle.std.proofs.Common.{◌≡◌, ◌+◌, ◌-◌, ◌*◌, ◌≤◌, ◌<◌, ℕ, List, length, ap, arith, refl}
+use Rattle.std.proofs.Common.{arith}
 use Rattle.std.proofs.lemmas.List.{take_all}
-use Rattle.text_defs.specs.Text.{lines_of, line_count, norm}
-use Rattle.text_defs.specs.Place.{offset_of}
+use Rattle.text_defs.specs.Text.{norm}
 use Rattle.line_text.specs.Sizes.{IsSizeOf}
 use Rattle.line_text.proofs.CountedSizes.{line_count-pos}
 use Rattle.line_text.proofs.FileTexts.{line_count-norm}
@@ -50,7 +49,7 @@ loop-edit-preserved c =
       chars_kept = omega (arith, e.chars_removed, e.chars_left, c.loop-edit.invariant.chars_kept, c.chars_between-kept_chars.ensures);
       lines_kept = omega (arith, e.lines_removed, e.lines_left, c.loop-edit.invariant.lines_kept, c.from-kept_lines-in-loop-edit.ensures);
       chars_added = omega (arith, e.chars_added, added.chars, c.loop-edit.invariant.chars_added, c.saturating_add-added_chars.ensures);
-      lines_added = omega (arith, e.lines_added, added.lines, line_count-pos (norm c.edit-item.result.text), line_count-norm c.text.result.now c.edit-item.result.text c.text.utf8 c.text.ensures, c.text.type_inv, c.loop-edit.invariant.lines_added, c.saturating_add-added_lines.ensures)
+      lines_added = omega (arith, e.lines_added, added.lines, line_count-pos (norm c.edit-item.result.text), line_count-norm c.text.result.now c.edit-item.result.text c.text.utf8 c.text.ensures, c.text.type_inv, c.loop-edit.invariant.lines_added, c.saturating_add-added_lines.ensures);
     }
 
 pub returns : goal.returns
@@ -58,4 +57,4 @@ returns c =
     let i = c.loop-edit.invariant in
     let all = take_all c.loop-edit.edit-index c.args.edits.now c.loop-edit-test.false in
     IsSizeOf-edited c.args.self.now c.args.edits.now _ c.loop-edit.kept_chars c.loop-edit.kept_lines c.loop-edit.added_chars c.loop-edit.added_lines c.requires
-      (rw all at i.chars_kept) (rw all at i.lines_kept) (rw all at i.chars_added) (rw all at i.lines_added) c.saturating_add.ensures c.saturating_add-2.ensures
+    (rw all at i.chars_kept) (rw all at i.lines_kept) (rw all at i.chars_added) (rw all at i.lines_added) c.saturating_add.ensures c.saturating_add-2.ensures

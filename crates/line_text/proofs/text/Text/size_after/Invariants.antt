@@ -12,5 +12,5 @@ invariant-loop-edit l = record {
   chars_kept : l.kept_chars + sum_by (removed (lines_of l.self)) (take l.edit-index l.edits) ≡ length l.self;
   lines_kept : l.kept_lines + sum_by removed_lines (take l.edit-index l.edits) ≡ line_count l.self;
   chars_added : l.added_chars ≡ counted (sum_by added (take l.edit-index l.edits));
-  lines_added : l.added_lines ≡ counted (sum_by added_lines (take l.edit-index l.edits))
+  lines_added : l.added_lines ≡ counted (sum_by added_lines (take l.edit-index l.edits));
 }

@@ -2,7 +2,7 @@ use Rattle.std.proofs.Common.{◌≡◌, ◌++◌, List, [], ℕ, drop, true, sy
 use Rattle.std.proofs.lemmas.Grind.{common_steps}
 use Rattle.piece_io.specs.Pending.{pending}
 use Rattle.piece_io.specs.declared.line_cutter.LineCutter.TheInside.{Inside}
-use Rattle.piece_io.proofs.Cutting.{feed-done, feed-first, pending-let_go}
+use Rattle.piece_io.proofs.Cutting.{feed-done, feed-first, pending-let_go, pending-has, on_ok}
 use Rattle.piece_io.proofs.line_cutter.LineCutter.feed.Goals as goal
 use Rattle.piece_io.proofs.line_cutter.LineCutter.feed.Goals.{then-is_too_long, else-is_too_long, then-is_empty, else-is_empty}
 
@@ -52,3 +52,8 @@ pub returns-clause-ok : goal.returns-clause-ok
 returns-clause-ok c =
     feed-first c.extend_from_slice.result c.if-is_too_long.self-inside.over
     (drop c.if-is_too_long.self-inside.start c.extend_from_slice.new.self.items) c.args.piece.now c.args.self.now.cuts (returns-clause-stream c)
+
+pub returns-clause-unfinished : goal.returns-clause-unfinished
+returns-clause-unfinished c =
+    on_ok c.extend_from_slice.result
+    (pending-has c.if-is_too_long.self-inside.over (drop c.if-is_too_long.self-inside.start c.extend_from_slice.new.self.items))

@@ -1,0 +1,7 @@
+mod GivenLines
+mod LineReadings
+mod Replying
+mod Requests
+mod RunLaws
+mod Scripts
+mod ServingLaws

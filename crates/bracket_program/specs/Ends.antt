@@ -1,0 +1,77 @@
+-- How a run ends: what each status says of the counts of faults, of what was taken and of what was written.
+use Rattle.std.specs.Prelude.{◌≡◌, ℕ, ◌^◌, ◌<◌, ◌≤◌, List, [], ◌∷◌, ◌++◌, length, Option, Some, None, IfSome, option_map}
+use Rattle.answer_defs.specs.Answers.{Settings}
+use Rattle.text_defs.specs.Text.{text_of, whole_lines}
+use Rattle.piece_io.specs.Told.{Told, Untold, Missing, Holds, appended, risen}
+use Rattle.session_defs.specs.Output.{is_accepted, written_for, script_lines, most_script_bytes}
+use Rattle.bracket_program.specs.declared.status.Status.{Status}
+use Rattle.bracket_program.specs.declared.status.Status.TheVariants as status
+
+-- of what was left before, told or not, these bytes were taken
+abbrev pub Takes : Option (List ℕ) → Option (List ℕ) → List ℕ → Type 0
+Takes before after taken = before ≡ option_map (λ rest. taken ++ rest) after
+
+-- a front of these bytes was added to what is held
+pub record WritesFront (before after : Option (List ℕ)) (all : List ℕ) : Type 0 where
+  pub part : List ℕ
+  pub rest : List ℕ
+  pub whole : part ++ rest ≡ all
+  pub adds : after ≡ appended before part
+
+-- an end at a reply: the sink failed and its count rose, or memory was wanting and its count stands
+abbrev pub IsReplyEnd : ℕ → ℕ → Status → Type 0
+IsReplyEnd before after status.WriteFault = risen before ≤ after
+IsReplyEnd before after status.Memory = after ≡ before
+IsReplyEnd before after status.Done = ⊥
+IsReplyEnd before after status.Words = ⊥
+IsReplyEnd before after status.TextFile = ⊥
+IsReplyEnd before after status.ReadFault = ⊥
+IsReplyEnd before after status.ScriptFull = ⊥
+
+-- what is told of a script and of a sink, and their counts of faults
+pub record Outside : Type 0 where
+  pub left : Option (List ℕ)
+  pub held : Option (List ℕ)
+  pub reads : ℕ
+  pub writes : ℕ
+
+abbrev pub outside : Option (List ℕ) → Option (List ℕ) → ℕ → ℕ → Outside
+outside left held reads writes = record { left = left; held = held; reads = reads; writes = writes }
+
+-- all of the script was taken, and each line has its reply
+pub record IsDone (before after : Outside) (settings : Settings) (text : List ℕ) : Type 0 where
+  pub script : List ℕ
+  pub takes : Takes before.left after.left script
+  pub ended : IfSome after.left (λ rest. rest ≡ [])
+  pub short : length script < most_script_bytes
+  pub writes : after.held ≡ appended before.held (written_for settings text (script_lines script))
+  pub reads_stand : after.reads ≡ before.reads
+  pub writes_stand : after.writes ≡ before.writes
+
+-- some of the script was taken, and each whole line of that has its reply
+pub record IsCut (before after : Outside) (settings : Settings) (text : List ℕ) : Type 0 where
+  pub script : List ℕ
+  pub takes : Takes before.left after.left script
+  pub writes : after.held ≡ appended before.held (written_for settings text (whole_lines script))
+  pub short : length script ≤ most_script_bytes
+  pub writes_stand : after.writes ≡ before.writes
+
+-- what was written is a front of what would be
+pub record IsFront (before after : Outside) (settings : Settings) (text : List ℕ) : Type 0 where
+  pub front : (script : List ℕ) → before.left ≡ Some script → WritesFront before.held after.held (written_for settings text (script_lines script))
+
+-- how each other status of a script that is answered stands to the outside
+abbrev pub IsEnd : Outside → Outside → Settings → List ℕ → Status → Type 0
+IsEnd before after settings text status.ReadFault = IsCut before after settings text × (risen before.reads ≤ after.reads)
+IsEnd before after settings text status.ScriptFull = (cut : IsCut before after settings text) × (length cut.script ≡ most_script_bytes) × (after.reads ≡ before.reads)
+IsEnd before after settings text status.WriteFault = IsFront before after settings text × (risen before.writes ≤ after.writes) × (after.reads ≡ before.reads)
+IsEnd before after settings text status.Memory = IsFront before after settings text × (after.writes ≡ before.writes) × (after.reads ≡ before.reads)
+IsEnd before after settings text status.Done = ⊥
+IsEnd before after settings text status.Words = ⊥
+IsEnd before after settings text status.TextFile = ⊥
+
+-- of all these bytes a front was added to what is held, and the rest is still to come
+pub record WritesUpTo (before after : Option (List ℕ)) (all rest : List ℕ) : Type 0 where
+  pub part : List ℕ
+  pub whole : part ++ rest ≡ all
+  pub adds : after ≡ appended before part

@@ -1,0 +1,5 @@
+pub mod Ends
+pub mod Lines
+pub mod Run
+pub mod Serving
+pub mod Texts

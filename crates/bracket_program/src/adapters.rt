@@ -1,0 +1,98 @@
+ghost use Rattle.std.specs.Prelude.{◌≡◌, ℕ, ◌<◌, ◌≤◌, ◌-◌, ◌^◌, List, Option, None, length, min};
+ghost use Rattle.piece_io.specs.Told.{Told, Untold};
+
+use piece_io::{Failed, Files, Sink, Source};
+use std::fs;
+use std::io::{Read, Write};
+use std::os::unix::fs::FileExt;
+
+/// The files of the system. What they hold is never told, and a failed read counts for every name.
+#[derive(Drop)]
+pub struct FileStore<'r> {
+    rt: &'r HostRuntime,
+    faults: u64,
+}
+
+impl<'r> FileStore<'r> {
+    pub fn new(rt: &'r HostRuntime) -> FileStore<'r>
+        ensures { result.faults ≡ 0 }
+    {
+        FileStore { rt, faults: 0 }
+    }
+}
+
+impl Files for FileStore<'_> {
+    ghost contents = { λ _ _. Untold };
+
+    ghost faults = { λ s _. s.faults };
+
+    fn read_at(&mut self, name: &str, from: u64, into: &mut [u8]) -> Result<usize, Failed> {
+        if let Ok(file) = fs::open(self.rt, name) {
+            if let Ok(come) = file.read_at(into, from) {
+                return Ok(come);
+            }
+        }
+        self.faults = self.faults.saturating_add(1);
+        Err(Failed)
+    }
+}
+
+/// Standard input, or another reader. What it has left is never told.
+#[derive(Drop)]
+pub struct InFeed<R: Read + Drop> {
+    reader: R,
+    faults: u64,
+}
+
+impl<R: Read + Drop> InFeed<R> {
+    pub fn new(reader: R) -> InFeed<R>
+        ensures { result.faults ≡ 0 }
+    {
+        InFeed { reader, faults: 0 }
+    }
+}
+
+impl<R: Read + Drop> Source for InFeed<R> {
+    ghost left = { λ _. None };
+
+    ghost faults = { λ s. s.faults };
+
+    fn read(&mut self, into: &mut [u8]) -> Result<usize, Failed> {
+        if let Ok(come) = self.reader.read(into) {
+            return Ok(come);
+        }
+        self.faults = self.faults.saturating_add(1);
+        Err(Failed)
+    }
+}
+
+/// Standard output, or another writer. What it holds is never told, and a write that takes nothing is a fault.
+#[derive(Drop)]
+pub struct OutFeed<W: Write + Drop> {
+    writer: W,
+    faults: u64,
+}
+
+impl<W: Write + Drop> OutFeed<W> {
+    pub fn new(writer: W) -> OutFeed<W>
+        ensures { result.faults ≡ 0 }
+    {
+        OutFeed { writer, faults: 0 }
+    }
+}
+
+impl<W: Write + Drop> Sink for OutFeed<W> {
+    ghost held = { λ _. None };
+
+    ghost faults = { λ s. s.faults };
+
+    fn write(&mut self, piece: &[u8]) -> Result<usize, Failed> {
+        if let Ok(taken) = self.writer.write(piece) {
+            if taken > 0 {
+                return Ok(taken);
+            }
+        }
+        self.faults = self.faults.saturating_add(1);
+        Err(Failed)
+    }
+}

@@ -1,0 +1,107 @@
+ghost use Rattle.std.specs.Prelude.{◌≡◌, ◌⊎◌, ◌↔◌, ◌<◌, ◌≤◌, ℕ, List, map, length, true, false, None, Some, IfSome, string_bytes, ⊤};
+ghost use Rattle.piece_io.specs.Told.{Holds, risen};
+ghost use Rattle.session_defs.specs.Words.{request_of};
+ghost use Rattle.session_defs.specs.Output.{is_accepted, most_script_bytes};
+ghost use Rattle.bracket_program.specs.Ends.{outside};
+ghost use Rattle.bracket_program.specs.Run.{IsRun, AllStand, AnswersAll, AnswersTaken, Refuses, Stands, WritesSome};
+
+use crate::open::open_document;
+use crate::serve::serve;
+use crate::status::Status;
+use crate::words::read_words;
+use piece_io::{Files, Sink, Source};
+use std::alloc::Global;
+use std::sync::ledger::Ledger;
+use step_count::Steps;
+
+/// Does all that the program does: reads the text file that the words name, answers the script line by line,
+/// and says how that ended. A file, a script or a sink may tell what it holds or not; what is said of contents
+/// holds where they are told. No step and no mark is counted yet.
+pub fn run<F: Files, S: Source, K: Sink, L: Ledger, M: Ledger>(
+    alloc: Global,
+    words: &[String],
+    files: &mut F,
+    script: &mut S,
+    sink: &mut K,
+    steps: &mut Steps<L>,
+    marks: &mut Steps<M>,
+) -> Status
+    // The headline: what is written is, line by line, the reply that pairing the whole text anew gives.
+    ensures done { result ≡ Status.Done → IfSome (request_of (map string_bytes words.now)) (AnswersAll (F.contents files.old)
+        (outside (S.left script.old) (K.held sink.old) (S.faults script.old) (K.faults sink.old))
+        (outside (S.left script.new) (K.held sink.new) (S.faults script.new) (K.faults sink.new))) }
+
+    // What each other status comes from, and what was written then.
+    ensures words { (result ≡ Status.Words) ↔ (request_of (map string_bytes words.now) ≡ None) }
+    ensures text_file { result ≡ Status.TextFile → IfSome (request_of (map string_bytes words.now)) (λ r. Refuses (F.contents files.old r.text)) }
+    ensures read_fault { result ≡ Status.ReadFault → IfSome (request_of (map string_bytes words.now)) (λ r.
+        ((risen (F.faults files.old r.text) ≤ F.faults files.new r.text)
+            × (S.left script.new ≡ S.left script.old) × (K.held sink.new ≡ K.held sink.old))
+        ⊎ ((risen (S.faults script.old) ≤ S.faults script.new) × AnswersTaken (F.contents files.old)
+            (outside (S.left script.old) (K.held sink.old) (S.faults script.old) (K.faults sink.old))
+            (outside (S.left script.new) (K.held sink.new) (S.faults script.new) (K.faults sink.new)) (λ _. ⊤) r)) }
+    ensures write_fault { result ≡ Status.WriteFault → risen (K.faults sink.old) ≤ K.faults sink.new }
+    ensures script_full { result ≡ Status.ScriptFull → IfSome (request_of (map string_bytes words.now)) (AnswersTaken (F.contents files.old)
+        (outside (S.left script.old) (K.held sink.old) (S.faults script.old) (K.faults sink.old))
+        (outside (S.left script.new) (K.held sink.new) (S.faults script.new) (K.faults sink.new)) (λ taken. length taken ≡ most_script_bytes)) }
+    ensures untouched { (result ≡ Status.Words) ⊎ (result ≡ Status.TextFile)
+        → (S.left script.new ≡ S.left script.old) × (K.held sink.new ≡ K.held sink.old) }
+    ensures front { (result ≡ Status.WriteFault) ⊎ (result ≡ Status.Memory)
+        → IfSome (request_of (map string_bytes words.now)) (WritesSome (F.contents files.old)
+            (outside (S.left script.old) (K.held sink.old) (S.faults script.old) (K.faults sink.old))
+            (outside (S.left script.new) (K.held sink.new) (S.faults script.new) (K.faults sink.new))) }
+
+    // When it succeeds, and when each refusal has to come.
+    ensures completes { IfSome (request_of (map string_bytes words.now)) (λ r. (file bytes : List ℕ) → F.contents files.old r.text ≡ Holds file
+        → is_accepted file ≡ true → S.left script.old ≡ Some bytes → length bytes < most_script_bytes
+        → AllStand (F.faults files.old) (F.faults files.new)
+            (outside (S.left script.old) (K.held sink.old) (S.faults script.old) (K.faults sink.old))
+            (outside (S.left script.new) (K.held sink.new) (S.faults script.new) (K.faults sink.new)) r
+        → (result ≡ Status.Done) ⊎ (result ≡ Status.Memory)) }
+    ensures refuses { IfSome (request_of (map string_bytes words.now)) (λ r. (file : List ℕ) → F.contents files.old r.text ≡ Holds file
+        → is_accepted file ≡ false → Stands (F.faults files.old r.text) (F.faults files.new r.text)
+        → (result ≡ Status.TextFile) ⊎ (result ≡ Status.Memory)) }
+    ensures fills { IfSome (request_of (map string_bytes words.now)) (λ r. (file bytes : List ℕ) → F.contents files.old r.text ≡ Holds file
+        → is_accepted file ≡ true → S.left script.old ≡ Some bytes → most_script_bytes ≤ length bytes
+        → AllStand (F.faults files.old) (F.faults files.new)
+            (outside (S.left script.old) (K.held sink.old) (S.faults script.old) (K.faults sink.old))
+            (outside (S.left script.new) (K.held sink.new) (S.faults script.new) (K.faults sink.new)) r
+        → (result ≡ Status.ScriptFull) ⊎ (result ≡ Status.Memory)) }
+
+    // A fault ends the run.
+    ensures file_rise { IfSome (request_of (map string_bytes words.now)) (λ r. F.faults files.old r.text < F.faults files.new r.text → result ≡ Status.ReadFault) }
+    ensures script_rise { S.faults script.old < S.faults script.new → result ≡ Status.ReadFault }
+    ensures sink_rise { K.faults sink.old < K.faults sink.new → result ≡ Status.WriteFault }
+
+    ensures contents { (q : List ℕ) → F.contents files.new q ≡ F.contents files.old q }
+    ensures steps { steps.new ≡ steps.old }
+    ensures marks { marks.new ≡ marks.old }
+{
+    run_to_end(alloc, words, files, script, sink)
+}
+
+/// Runs for these words, to whatever end that comes to.
+fn run_to_end<F: Files, S: Source, K: Sink>(
+    alloc: Global,
+    words: &[String],
+    files: &mut F,
+    script: &mut S,
+    sink: &mut K,
+) -> Status
+    ensures ends { IsRun (F.contents files.old) (F.faults files.old) (F.faults files.new)
+        (outside (S.left script.old) (K.held sink.old) (S.faults script.old) (K.faults sink.old))
+        (outside (S.left script.new) (K.held sink.new) (S.faults script.new) (K.faults sink.new))
+        (request_of (map string_bytes words.now)) result }
+    ensures contents { (q : List ℕ) → F.contents files.new q ≡ F.contents files.old q }
+{
+    let Some((name, limits)) = read_words(words) else {
+        return Status::Words;
+    };
+    match open_document(alloc, files, name, limits) {
+        Ok(mut document) => match serve(alloc, &mut document, script, sink) {
+            Ok(()) => Status::Done,
+            Err(status) => status,
+        },
+        Err(status) => status,
+    }
+}

@@ -1,0 +1,7 @@
+-- A document: the text as edited so far, and what stays the same.
+use Rattle.std.specs.Prelude.{ℕ, List}
+use Rattle.answer_defs.specs.Answers.{Settings}
+
+pub record State : Type 0 where
+  pub text : List ℕ
+  pub settings : Settings

@@ -1,0 +1,163 @@
+ghost use Rattle.std.specs.Prelude.{◌≡◌, ℕ, map, None, Some, Err, IfOk, IfErr, OnOk, OnErr, IsTrue};
+ghost use Rattle.text_defs.specs.Text.{line_count, lines_of};
+ghost use Rattle.text_defs.specs.Batch.{batch_refusal, edited};
+ghost use Rattle.line_text.specs.BatchRefusals.{HasCause};
+ghost use Rattle.answer_defs.specs.Answers.{answer_of, question_refusal, rows_of, settings_of};
+ghost use Rattle.document.specs.MarkedText.{marked_line};
+ghost use Rattle.answer_defs.specs.declared.refusal.Refusal.TheVariants as refusal;
+
+use answer_defs::{Answer, Question};
+use bracket_lex::{Brackets, MarkLines, Paired};
+use line_text::{Edit, EditRefusal, Edited, Text};
+use pair_queries::brackets;
+use std::alloc::{AllocError, Global};
+use std::marker::Model;
+use text_pos::{Chars, Limits};
+use thiserror::Error;
+
+/// An open text, with its brackets and limits.
+#[derive(Drop)]
+pub struct Document {
+    text: Text,
+    brackets: Brackets,
+    limits: Limits,
+}
+
+impl Model for Document {
+    ghost use Rattle.document.specs.State.{State};
+
+    ghost Value = { State };
+
+    ghost view = { λ d. record { text = d.text; settings = record { texts = d.brackets; limits = d.limits } } };
+}
+
+/// Why a question has no answer.
+#[derive(Debug, Drop, Error)]
+pub enum AskRefusal {
+    /// A line of the question isn't there, or its range is no range; the text has so many lines.
+    #[error("Line")]
+    Line { lines: u64 },
+    #[error("Memory")]
+    Memory(AllocError),
+}
+
+impl Document {
+    /// Opens a text.
+    pub fn begin(text: Text, brackets: Brackets, limits: Limits) -> Result<Document, AllocError>
+        ensures text { IfOk result (λ d. d.text ≡ text) }
+        ensures texts { IfOk result (λ d. d.settings.texts ≡ brackets) }
+        ensures limits { IfOk result (λ d. d.settings.limits ≡ limits) }
+    {
+        Ok(Document {
+            text,
+            brackets,
+            limits,
+        })
+    }
+
+    /// Replaces the text by what a batch of edits makes of it, and answers how many lines it has then.
+    /// Refused, it stays as it was.
+    pub fn edit(&mut self, alloc: Global, edits: &[Edit]) -> Result<u32, EditRefusal>
+        ensures text { OnOk result (self.new.text ≡ edited self.old.text edits.now) }
+        ensures lines { IfOk result (λ lines. lines ≡ line_count (edited self.old.text edits.now)) }
+        ensures accepted { OnOk result (batch_refusal self.old.text edits.now ≡ None) }
+        ensures refused { IfErr result (HasCause (batch_refusal self.old.text edits.now)) }
+        ensures settings { self.new.settings ≡ self.old.settings }
+        ensures unchanged { OnErr result (self.new ≡ self.old) }
+    {
+        let Edited { text, carry: _ } = self.text.edited(alloc, edits)?;
+        self.text = text;
+        Ok(self.text.lines())
+    }
+
+    /// The answer to a question. The whole text is paired anew for it.
+    pub fn ask(&mut self, alloc: Global, question: &Question) -> Result<Answer, AskRefusal>
+        ensures answer { IfOk result (λ a. a ≡ answer_of self.old.settings self.old.text question.now) }
+        ensures answered { OnOk result (question_refusal self.old.text question.now ≡ None) }
+        ensures line { (lines : ℕ) → result ≡ Err (AskRefusal.Line lines)
+            → (question_refusal self.old.text question.now ≡ Some refusal.Line) × (lines ≡ line_count self.old.text) }
+        ensures same { self.new ≡ self.old }
+    {
+        if !self.can_answer(question) {
+            return Err(AskRefusal::Line {
+                lines: u64::from(self.text.lines()),
+            });
+        }
+        self.answer(alloc, question).map_err(AskRefusal::Memory)
+    }
+
+    pub fn text(&self) -> &Text
+        ensures { result.now ≡ self.now.text }
+    {
+        &self.text
+    }
+}
+
+impl Document {
+    /// Whether the lines of a question are there.
+    fn can_answer(&self, question: &Question) -> bool
+        ensures yes { IsTrue result → question_refusal self.now.text question.now ≡ None }
+        ensures no { ¬ (IsTrue result) → question_refusal self.now.text question.now ≡ Some refusal.Line }
+    {
+        let lines = self.text.lines();
+        match *question {
+            Question::Brackets { from, to } => from <= to && to < lines && to - from < MOST_LINES,
+            Question::Line { line } => line < lines,
+        }
+    }
+
+    fn answer(&self, alloc: Global, question: &Question) -> Result<Answer, AllocError>
+        requires { question_refusal self.now.text question.now ≡ None }
+        ensures { IfOk result (λ a. a ≡ answer_of self.now.settings self.now.text question.now) }
+    {
+        match *question {
+            Question::Brackets { from, to } => {
+                let rows = pair_text(alloc, &self.text, &self.brackets, self.limits)?;
+                Ok(Answer::Brackets(brackets(alloc, &rows, from, to)?))
+            }
+            Question::Line { line } => {
+                let chars = self.text.line(line).chars();
+                Ok(Answer::Line(Chars::of(alloc, chars)?))
+            }
+        }
+    }
+}
+
+/// A text has at most so many characters.
+const MOST_CHARS: u32 = 4_194_304;
+
+/// A question asks for at most so many lines.
+const MOST_LINES: u32 = 4096;
+
+/// The rows of a whole text.
+fn pair_text(
+    alloc: Global,
+    text: &Text,
+    brackets: &Brackets,
+    limits: Limits,
+) -> Result<Paired, AllocError>
+    ensures { IfOk result (λ rows. rows ≡ rows_of (settings_of brackets.now limits) text.now) }
+{
+    let marks = mark_text(alloc, text, brackets, limits.long)?;
+    // There are no more marks than characters, so each row has a number.
+    let chars = text.chars();
+    prove!(chars <= MOST_CHARS);
+    let rows = Paired::of(alloc, &marks, marks.end(), limits.nesting)?;
+    Ok(rows)
+}
+
+/// The marks of each line.
+fn mark_text(
+    alloc: Global,
+    text: &Text,
+    brackets: &Brackets,
+    long: u32,
+) -> Result<MarkLines, AllocError>
+    ensures { IfOk result (λ lines. lines ≡ map (marked_line brackets.now long) (lines_of text.now)) }
+{
+    let mut marks = MarkLines::new(alloc);
+    for n in 0..text.lines() {
+        marks.push(brackets.marks(alloc, text.line(n), long)?)?;
+    }
+    Ok(marks)
+}

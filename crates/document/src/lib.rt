@@ -1,0 +1,6 @@
+//! The whole state of an open text, as one value.
+#![tactic(auto)]
+
+pub mod document;
+
+pub use document::{AskRefusal, Document};
