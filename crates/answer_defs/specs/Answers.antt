@@ -1,7 +1,6 @@
 -- Answers are filters of the rows of the whole text, and rows are those of one pass from the first line.
 -- The questions, their answers and their refusals are this project's own.
-use Rattle.std.specs.Prelude.{ℕ, ◌+◌, ◌-◌, ◌*◌, ◌==◌, List, [], ◌∷◌, length, map, filter, Bool, true, false, ◌&&◌, nat_lt, nat_le, if◌then◌else◌, Option, Some, None}
-use Rattle.text_pos.specs.declared.length.Pos.{Pos}
+use Rattle.std.specs.Prelude.{ℕ, ◌-◌, List, length, map, filter, Bool, ◌&&◌, nat_lt, nat_le, if◌then◌else◌, Option, Some, None}
 use Rattle.text_pos.specs.declared.limits.Limits.{Limits}
 use Rattle.text_defs.specs.Text.{lines_of, line_of, line_count}
 use Rattle.text_defs.specs.Place.{place_of}
