@@ -265,90 +265,81 @@ fn add_times(bytes: &mut Vec<u8>, part: &[u8], times: u32) -> Result<(), AllocEr
     Ok(())
 }
 
-#[test]
-fn limits_of_lines_and_texts(rt: HostRuntime) -> Result<(), Fail> {
-    let alloc = rt.alloc();
-
-    // A line of 20,000 characters has no brackets, and one of 19,999 has.
-    let mut text = Vec::new(alloc);
-    add_times(&mut text, b"(", 1)?;
-    add_times(&mut text, b"a", 19_998)?;
-    add_times(&mut text, b"\n)", 1)?;
-    add_times(&mut text, b"a", 19_999)?;
+/// What is written for a text and a script of bytes, and the status.
+fn run_bytes(alloc: Global, text: &[u8], script: &[u8]) -> Result<(Status, MemSink), AllocError> {
     let case = Case {
         words: &["text"],
-        text: Some(&text),
-        script: b"{\"brackets\":[0,1]}\n",
+        text: Some(text),
+        script,
         wrote: b"",
         status: Status::Done,
     };
-    let (_, sink) = run_case(alloc, &case, &[], &[])?;
+    run_case(alloc, &case, &[], &[])
+}
+
+/// An edit at the text's start that inserts so many line ends.
+fn insertion(alloc: Global, lines: u32) -> Result<Vec<u8>, AllocError> {
+    let mut script = Vec::new(alloc);
+    add_times(&mut script, b"{\"edit\":[[0,0,0,0,\"", 1)?;
+    add_times(&mut script, b"\\n", lines)?;
+    add_times(&mut script, b"\"]]}\n", 1)?;
+    Ok(script)
+}
+
+#[test]
+fn limits_of_lines_and_texts(rt: HostRuntime) -> Result<(), Fail> {
+    let alloc = rt.alloc();
+    let opened = b"{\"opened\":1,\"unread\":0}\n".as_slice();
+
+    // A line of 20,000 characters has no brackets, and one of 19,999 has.
+    let mut long = Vec::new(alloc);
+    add_times(&mut long, b"(", 1)?;
+    add_times(&mut long, b"a", 19_998)?;
+    add_times(&mut long, b"\n)", 1)?;
+    add_times(&mut long, b"a", 19_999)?;
+    let (_, sink) = run_bytes(alloc, &long, b"{\"brackets\":[0,1]}\n")?;
     assert_eq!(rt;
         sink.bytes(),
         b"{\"opened\":2,\"unread\":0}\n{\"brackets\":[[0,0,1,0,0,6]]}\n".as_slice()
     );
 
     // A script line of 1,048,577 bytes is too long.
-    let mut script = Vec::new(alloc);
-    add_times(&mut script, b" ", 1_048_577)?;
-    add_times(&mut script, b"\n{\"line\":0}\n", 1)?;
-    let case = Case {
-        words: &["text"],
-        text: Some(b"a"),
-        script: &script,
-        wrote: b"",
-        status: Status::Done,
-    };
-    let (_, sink) = run_case(alloc, &case, &[], &[])?;
+    let mut wide = Vec::new(alloc);
+    add_times(&mut wide, b" ", 1_048_577)?;
+    add_times(&mut wide, b"\n{\"line\":0}\n", 1)?;
+    let (_, sink) = run_bytes(alloc, b"a", &wide)?;
     assert_eq!(rt;
         sink.bytes(),
         b"{\"opened\":1,\"unread\":0}\n{\"refused\":\"long\"}\n{\"line\":\"a\"}\n".as_slice()
     );
 
     // 2^18 lines, and one more.
-    let mut script = Vec::new(alloc);
-    add_times(&mut script, b"{\"edit\":[[0,0,0,0,\"", 1)?;
-    add_times(&mut script, b"\\n", 262_144)?;
-    add_times(&mut script, b"\"]]}\n{\"edit\":[[0,0,0,0,\"", 1)?;
-    add_times(&mut script, b"\\n", 262_143)?;
-    add_times(&mut script, b"\"]]}\n", 1)?;
-    let case = Case {
-        words: &["text"],
-        text: Some(b""),
-        script: &script,
-        wrote: b"",
-        status: Status::Done,
-    };
-    let (_, sink) = run_case(alloc, &case, &[], &[])?;
+    let many = insertion(alloc, 262_144)?;
+    let (_, sink) = run_bytes(alloc, b"", &many)?;
     assert_eq!(rt;
         sink.bytes(),
-        b"{\"opened\":1,\"unread\":0}\n{\"refused\":\"lines\"}\n{\"edited\":262144}\n".as_slice()
+        b"{\"opened\":1,\"unread\":0}\n{\"refused\":\"lines\"}\n".as_slice()
+    );
+    let most = insertion(alloc, 262_143)?;
+    let (_, sink) = run_bytes(alloc, b"", &most)?;
+    assert_eq!(rt;
+        sink.bytes(),
+        b"{\"opened\":1,\"unread\":0}\n{\"edited\":262144}\n".as_slice()
     );
 
     // 2^22 characters, and one more.
-    let mut text = Vec::new(alloc);
-    add_times(&mut text, b"a", 4_194_304)?;
-    let case = Case {
-        words: &["text"],
-        text: Some(&text),
-        script: b"{\"edit\":[[0,0,0,0,\"a\"]]}\n",
-        wrote: b"",
-        status: Status::Done,
-    };
-    let (_, sink) = run_case(alloc, &case, &[], &[])?;
+    let mut large = Vec::new(alloc);
+    add_times(&mut large, b"a", 4_194_304)?;
+    let (_, sink) = run_bytes(alloc, &large, b"{\"edit\":[[0,0,0,0,\"a\"]]}\n")?;
     assert_eq!(rt;
         sink.bytes(),
         b"{\"opened\":1,\"unread\":0}\n{\"refused\":\"chars\"}\n".as_slice()
     );
-    add_times(&mut text, b"a", 1)?;
-    let case = Case {
-        words: &["text"],
-        text: Some(&text),
-        script: b"",
-        wrote: b"",
-        status: Status::TextFile,
-    };
-    let (status, sink) = run_case(alloc, &case, &[], &[])?;
+    let (status, sink) = run_bytes(alloc, &large, b"")?;
+    assert_eq!(rt; status, Status::Done);
+    assert_eq!(rt; sink.bytes(), opened);
+    add_times(&mut large, b"a", 1)?;
+    let (status, sink) = run_bytes(alloc, &large, b"")?;
     assert_eq!(rt; status, Status::TextFile);
     assert_eq!(rt; sink.bytes(), b"".as_slice());
     Ok(())
