@@ -257,16 +257,30 @@ fn faults_leave_whole_replies(rt: HostRuntime) -> Result<(), Fail> {
     Ok(())
 }
 
-/// So many times the same bytes at the end.
-fn add_times(bytes: &mut Vec<u8>, part: &[u8], times: u32) -> Result<(), AllocError> {
+/// Bytes with a part so many times between their front and their back.
+fn repeated(
+    alloc: Global,
+    front: &[u8],
+    part: &[u8],
+    times: u32,
+    back: &[u8],
+) -> Result<Vec<u8>, AllocError> {
+    let mut bytes = Vec::from_slice(alloc, front)?;
     for _ in 0..times {
         bytes.extend_from_slice(part)?;
     }
-    Ok(())
+    bytes.extend_from_slice(back)?;
+    Ok(bytes)
 }
 
-/// What is written for a text and a script of bytes, and the status.
-fn run_bytes(alloc: Global, text: &[u8], script: &[u8]) -> Result<(Status, MemSink), AllocError> {
+/// Runs a script over a text, and compares what is written behind the open reply's line.
+fn check_run(
+    rt: &HostRuntime,
+    text: &[u8],
+    script: &[u8],
+    lines: &str,
+    wrote: &str,
+) -> Result<(), AllocError> {
     let case = Case {
         words: &["text"],
         text: Some(text),
@@ -274,72 +288,54 @@ fn run_bytes(alloc: Global, text: &[u8], script: &[u8]) -> Result<(Status, MemSi
         wrote: b"",
         status: Status::Done,
     };
-    run_case(alloc, &case, &[], &[])
-}
-
-/// An edit at the text's start that inserts so many line ends.
-fn insertion(alloc: Global, lines: u32) -> Result<Vec<u8>, AllocError> {
-    let mut script = Vec::new(alloc);
-    add_times(&mut script, b"{\"edit\":[[0,0,0,0,\"", 1)?;
-    add_times(&mut script, b"\\n", lines)?;
-    add_times(&mut script, b"\"]]}\n", 1)?;
-    Ok(script)
+    let (status, sink) = run_case(rt.alloc(), &case, &[], &[])?;
+    let expected = format!(in rt.alloc(); "{{\"opened\":{lines},\"unread\":0}}\n{wrote}")?;
+    assert_eq!(rt; status, Status::Done, "{wrote}");
+    assert_eq!(rt; sink.bytes(), expected.as_bytes(), "{wrote}");
+    Ok(())
 }
 
 #[test]
-fn limits_of_lines_and_texts(rt: HostRuntime) -> Result<(), Fail> {
-    let alloc = rt.alloc();
-    let opened = b"{\"opened\":1,\"unread\":0}\n".as_slice();
+fn long_lines_have_no_brackets(rt: HostRuntime) -> Result<(), Fail> {
+    let line = repeated(rt.alloc(), b"(", b"a", 19_998, b"\n)")?;
+    let text = repeated(rt.alloc(), &line, b"a", 19_999, b"")?;
+    let wrote = "{\"brackets\":[[0,0,1,0,0,6]]}\n";
+    check_run(&rt, &text, b"{\"brackets\":[0,1]}\n", "2", wrote)?;
+    Ok(())
+}
 
-    // A line of 20,000 characters has no brackets, and one of 19,999 has.
-    let mut long = Vec::new(alloc);
-    add_times(&mut long, b"(", 1)?;
-    add_times(&mut long, b"a", 19_998)?;
-    add_times(&mut long, b"\n)", 1)?;
-    add_times(&mut long, b"a", 19_999)?;
-    let (_, sink) = run_bytes(alloc, &long, b"{\"brackets\":[0,1]}\n")?;
-    assert_eq!(rt;
-        sink.bytes(),
-        b"{\"opened\":2,\"unread\":0}\n{\"brackets\":[[0,0,1,0,0,6]]}\n".as_slice()
-    );
+#[test]
+fn long_script_lines_are_refused(rt: HostRuntime) -> Result<(), Fail> {
+    let script = repeated(rt.alloc(), b"", b" ", 1_048_577, b"\n{\"line\":0}\n")?;
+    let wrote = "{\"refused\":\"long\"}\n{\"line\":\"a\"}\n";
+    check_run(&rt, b"a", &script, "1", wrote)?;
+    Ok(())
+}
 
-    // A script line of 1,048,577 bytes is too long.
-    let mut wide = Vec::new(alloc);
-    add_times(&mut wide, b" ", 1_048_577)?;
-    add_times(&mut wide, b"\n{\"line\":0}\n", 1)?;
-    let (_, sink) = run_bytes(alloc, b"a", &wide)?;
-    assert_eq!(rt;
-        sink.bytes(),
-        b"{\"opened\":1,\"unread\":0}\n{\"refused\":\"long\"}\n{\"line\":\"a\"}\n".as_slice()
-    );
+#[test]
+fn texts_have_at_most_so_many_lines(rt: HostRuntime) -> Result<(), Fail> {
+    let edit = b"{\"edit\":[[0,0,0,0,\"".as_slice();
+    let more = repeated(rt.alloc(), edit, b"\\n", 262_144, b"\"]]}\n")?;
+    check_run(&rt, b"", &more, "1", "{\"refused\":\"lines\"}\n")?;
+    let most = repeated(rt.alloc(), edit, b"\\n", 262_143, b"\"]]}\n")?;
+    check_run(&rt, b"", &most, "1", "{\"edited\":262144}\n")?;
+    Ok(())
+}
 
-    // 2^18 lines, and one more.
-    let many = insertion(alloc, 262_144)?;
-    let (_, sink) = run_bytes(alloc, b"", &many)?;
-    assert_eq!(rt;
-        sink.bytes(),
-        b"{\"opened\":1,\"unread\":0}\n{\"refused\":\"lines\"}\n".as_slice()
-    );
-    let most = insertion(alloc, 262_143)?;
-    let (_, sink) = run_bytes(alloc, b"", &most)?;
-    assert_eq!(rt;
-        sink.bytes(),
-        b"{\"opened\":1,\"unread\":0}\n{\"edited\":262144}\n".as_slice()
-    );
-
-    // 2^22 characters, and one more.
-    let mut large = Vec::new(alloc);
-    add_times(&mut large, b"a", 4_194_304)?;
-    let (_, sink) = run_bytes(alloc, &large, b"{\"edit\":[[0,0,0,0,\"a\"]]}\n")?;
-    assert_eq!(rt;
-        sink.bytes(),
-        b"{\"opened\":1,\"unread\":0}\n{\"refused\":\"chars\"}\n".as_slice()
-    );
-    let (status, sink) = run_bytes(alloc, &large, b"")?;
-    assert_eq!(rt; status, Status::Done);
-    assert_eq!(rt; sink.bytes(), opened);
-    add_times(&mut large, b"a", 1)?;
-    let (status, sink) = run_bytes(alloc, &large, b"")?;
+#[test]
+fn texts_have_at_most_so_many_characters(rt: HostRuntime) -> Result<(), Fail> {
+    let most = repeated(rt.alloc(), b"", b"a", 4_194_304, b"")?;
+    let script = b"{\"edit\":[[0,0,0,0,\"a\"]]}\n".as_slice();
+    check_run(&rt, &most, script, "1", "{\"refused\":\"chars\"}\n")?;
+    let more = repeated(rt.alloc(), b"", b"a", 4_194_305, b"")?;
+    let case = Case {
+        words: &["text"],
+        text: Some(&more),
+        script,
+        wrote: b"",
+        status: Status::TextFile,
+    };
+    let (status, sink) = run_case(rt.alloc(), &case, &[], &[])?;
     assert_eq!(rt; status, Status::TextFile);
     assert_eq!(rt; sink.bytes(), b"".as_slice());
     Ok(())

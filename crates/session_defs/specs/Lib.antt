@@ -1,3 +1,5 @@
 pub mod Output
 pub mod Session
+pub mod SessionExamples
+pub mod TextExamples
 pub mod Words
