@@ -5,6 +5,7 @@ use crate::status::Status;
 use piece_io::{Failed, MemFiles, MemSink, MemSource, Sink, Source};
 use std::alloc::{AllocError, Global};
 use std::marker::Brand;
+use std::process::Abort;
 use std::sync::ledger::{Blank, Ledger};
 use std::test::Fail;
 use step_count::Steps;
@@ -275,7 +276,8 @@ fn repeated(
 
 /// Runs a script over a text, and compares what is written behind the open reply's line.
 fn check_run(
-    rt: &HostRuntime,
+    rt: &impl Abort,
+    alloc: Global,
     text: &[u8],
     script: &[u8],
     lines: &str,
@@ -288,8 +290,8 @@ fn check_run(
         wrote: b"",
         status: Status::Done,
     };
-    let (status, sink) = run_case(rt.alloc(), &case, &[], &[])?;
-    let expected = format!(in rt.alloc(); "{{\"opened\":{lines},\"unread\":0}}\n{wrote}")?;
+    let (status, sink) = run_case(alloc, &case, &[], &[])?;
+    let expected = format!(in alloc; "{{\"opened\":{lines},\"unread\":0}}\n{wrote}")?;
     assert_eq!(rt; status, Status::Done, "{wrote}");
     assert_eq!(rt; sink.bytes(), expected.as_bytes(), "{wrote}");
     Ok(())
@@ -300,7 +302,14 @@ fn long_lines_have_no_brackets(rt: HostRuntime) -> Result<(), Fail> {
     let line = repeated(rt.alloc(), b"(", b"a", 19_998, b"\n)")?;
     let text = repeated(rt.alloc(), &line, b"a", 19_999, b"")?;
     let wrote = "{\"brackets\":[[0,0,1,0,0,6]]}\n";
-    check_run(&rt, &text, b"{\"brackets\":[0,1]}\n", "2", wrote)?;
+    check_run(
+        &rt,
+        rt.alloc(),
+        &text,
+        b"{\"brackets\":[0,1]}\n",
+        "2",
+        wrote,
+    )?;
     Ok(())
 }
 
@@ -308,7 +317,7 @@ fn long_lines_have_no_brackets(rt: HostRuntime) -> Result<(), Fail> {
 fn long_script_lines_are_refused(rt: HostRuntime) -> Result<(), Fail> {
     let script = repeated(rt.alloc(), b"", b" ", 1_048_577, b"\n{\"line\":0}\n")?;
     let wrote = "{\"refused\":\"long\"}\n{\"line\":\"a\"}\n";
-    check_run(&rt, b"a", &script, "1", wrote)?;
+    check_run(&rt, rt.alloc(), b"a", &script, "1", wrote)?;
     Ok(())
 }
 
@@ -316,9 +325,16 @@ fn long_script_lines_are_refused(rt: HostRuntime) -> Result<(), Fail> {
 fn texts_have_at_most_so_many_lines(rt: HostRuntime) -> Result<(), Fail> {
     let edit = b"{\"edit\":[[0,0,0,0,\"".as_slice();
     let more = repeated(rt.alloc(), edit, b"\\n", 262_144, b"\"]]}\n")?;
-    check_run(&rt, b"", &more, "1", "{\"refused\":\"lines\"}\n")?;
+    check_run(
+        &rt,
+        rt.alloc(),
+        b"",
+        &more,
+        "1",
+        "{\"refused\":\"lines\"}\n",
+    )?;
     let most = repeated(rt.alloc(), edit, b"\\n", 262_143, b"\"]]}\n")?;
-    check_run(&rt, b"", &most, "1", "{\"edited\":262144}\n")?;
+    check_run(&rt, rt.alloc(), b"", &most, "1", "{\"edited\":262144}\n")?;
     Ok(())
 }
 
@@ -326,7 +342,14 @@ fn texts_have_at_most_so_many_lines(rt: HostRuntime) -> Result<(), Fail> {
 fn texts_have_at_most_so_many_characters(rt: HostRuntime) -> Result<(), Fail> {
     let most = repeated(rt.alloc(), b"", b"a", 4_194_304, b"")?;
     let script = b"{\"edit\":[[0,0,0,0,\"a\"]]}\n".as_slice();
-    check_run(&rt, &most, script, "1", "{\"refused\":\"chars\"}\n")?;
+    check_run(
+        &rt,
+        rt.alloc(),
+        &most,
+        script,
+        "1",
+        "{\"refused\":\"chars\"}\n",
+    )?;
     let more = repeated(rt.alloc(), b"", b"a", 4_194_305, b"")?;
     let case = Case {
         words: &["text"],

@@ -5,7 +5,6 @@ ghost use Rattle.std.specs.Prelude.{◌≡◌, IfOk};
 ghost use Rattle.answer_defs.specs.Answers.{bracket_row, brackets_in, is_in_lines};
 
 pub use answer_defs::{Answer, BracketRow, MarkAt, Question, Rows};
-
 use bracket_lex::{Paired, Row};
 use std::alloc::{AllocError, Global};
 
@@ -16,12 +15,7 @@ pub fn brackets(alloc: Global, rows: &Paired, from: u32, to: u32) -> Result<Rows
     brackets_among(alloc, rows.rows(), from, to)
 }
 
-fn brackets_among(
-    alloc: Global,
-    rows: &[Row],
-    from: u32,
-    to: u32,
-) -> Result<Rows, AllocError>
+fn brackets_among(alloc: Global, rows: &[Row], from: u32, to: u32) -> Result<Rows, AllocError>
     ensures { IfOk result (λ found. found ≡ brackets_in from to rows.now) }
 {
     let mut found = Rows::new(alloc);

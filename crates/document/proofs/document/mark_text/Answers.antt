@@ -1,4 +1,4 @@
-use Rattle.std.proofs.Common.{◌≡◌, ◌<◌, ◌∙◌, ap, arith, ◌++◌, ◌∷◌, [], length, map, take}
+use Rattle.std.proofs.Common.{◌<◌, ◌∙◌, ap, arith, ◌++◌, ◌∷◌, [], length, map, take}
 use Rattle.text_defs.specs.Text.{lines_of}
 use Rattle.document.specs.MarkedText.{marked_line}
 use Rattle.document.proofs.TextLines.{map-take_more, marked_line-is}

@@ -1,8 +1,7 @@
-use Rattle.std.proofs.Common.{◌≡◌, ◌≤◌, ◌<◌, sym, ◌∙◌, ap, arith, length, map, subst}
+use Rattle.std.proofs.Common.{◌∙◌, ap, arith, length}
 use Rattle.text_defs.specs.Text.{lines_of}
 use Rattle.pairing_defs.specs.Pairing.{paired}
-use Rattle.pairing_defs.specs.Marks.{text_marks}
-use Rattle.bracket_lex.specs.MarkedLine.{marks_in, text_end, MarkedLine}
+use Rattle.bracket_lex.specs.MarkedLine.{marks_in, text_end}
 use Rattle.document.specs.MarkedText.{marked_line}
 use Rattle.document.proofs.TextLines.{lines_of-some, text_end-lines, marks_in-lines, text_marks-few}
 use Rattle.std.proofs.lemmas.List.{length-map}
