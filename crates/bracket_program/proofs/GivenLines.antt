@@ -1,9 +1,9 @@
 -- What a cutter hands out next is the first of what it will hand out.
-use Rattle.std.proofs.Common.{◌≡◌, ℕ, List, [], ◌∷◌, length, refl, sym, ap, ◌∙◌, Bool, true, false}
-use Rattle.std.specs.Prelude.{Option, Some, None}
+use Rattle.std.proofs.Common.{◌≡◌, List, [], ◌∷◌, refl, sym, ap, ◌∙◌, Bool, true, false}
+use Rattle.std.specs.Prelude.{Some, None}
 use Rattle.piece_io.specs.declared.line_cutter.Cut.{Cut}
 use Rattle.piece_io.specs.declared.line_cutter.Cut.TheVariants.{Line, TooLong}
-use Rattle.piece_io.specs.Cuts.{Cutting, first_cut, last_cut, next_cut}
+use Rattle.piece_io.specs.Cuts.{Cutting, first_cut, next_cut}
 use Rattle.bracket_program.specs.Lines.{given, lines_given, last_of}
 
 abbrev handed : Cut × Cutting → List Cut

@@ -1,13 +1,13 @@
 -- What is handed out for lines means what the lines mean.
 use Rattle.std.proofs.Common.{◌≡◌, ℕ, List, [], ◌∷◌, ◌++◌, length, map, refl, sym, ap, ◌∙◌, Bool, true, false}
-use Rattle.std.specs.Prelude.{Option, Some, None, nat_lt, if◌then◌else◌}
+use Rattle.std.specs.Prelude.{None, nat_lt, if◌then◌else◌}
 use Rattle.text_defs.specs.Text.{lines_of, all_but_last, last_line, whole_lines, unfinished}
 use Rattle.piece_io.specs.declared.line_cutter.Cut.{Cut}
 use Rattle.piece_io.specs.declared.line_cutter.Cut.TheVariants.{Line, TooLong}
 use Rattle.piece_io.specs.Cuts.{Cutting, cut_of, cuts_of, most_in_line, next_cut, first_cut}
 use Rattle.piece_io.specs.CutLaws.{lines_of-split, unfinished-line, unfinished-append}
 use Rattle.answer_defs.specs.declared.refusal.Refusal.TheVariants as refusal
-use Rattle.script_words.specs.Script.{Reading, refused, meaning_of, reading_of}
+use Rattle.script_words.specs.Script.{refused, meaning_of, reading_of}
 use Rattle.session_defs.specs.Output.{line_if_any}
 use Rattle.bracket_program.specs.Lines.{cut_reading, lines_given, last_given, last_of}
 

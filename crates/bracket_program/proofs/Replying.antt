@@ -1,12 +1,11 @@
 -- Replies, one after another.
-use Rattle.std.proofs.Common.{◌≡◌, ℕ, List, [], ◌∷◌, ◌++◌, refl, sym, ap, subst, map, ◌∙◌, append_assoc, append-nil}
+use Rattle.std.proofs.Common.{◌≡◌, ℕ, List, [], ◌++◌, refl, sym, ap, subst, map, ◌∙◌, append_assoc, append-nil}
 use Rattle.std.specs.Prelude.{Option, Some, None, Result, Ok, Err, OnErr, OnOk}
 use Rattle.piece_io.specs.Told.{appended}
 use Rattle.piece_io.specs.declared.line_cutter.Cut.{Cut}
 use Rattle.piece_io.specs.Cuts.{Cutting, next_cut}
 use Rattle.answer_defs.specs.Answers.{Settings}
 use Rattle.script_words.specs.ReplyText.{reply_text}
-use Rattle.script_words.specs.Script.{Reading}
 use Rattle.session_defs.specs.Session.{reading_step, replies_to, text_behind}
 use Rattle.bracket_program.specs.Lines.{cut_reading, given}
 use Rattle.bracket_program.specs.Ends.{WritesFront, WritesUpTo}

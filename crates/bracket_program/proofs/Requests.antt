@@ -1,8 +1,8 @@
 -- Words that are no command line.
-use Rattle.std.proofs.Common.{◌≡◌, ◌<◌, ◌≤◌, ℕ, List, [], ◌∷◌, length, map, get_or, refl, sym, ap, ◌∙◌, arith, Bool, true, false, ◌&&◌, cond}
+use Rattle.std.proofs.Common.{◌≡◌, ◌<◌, ◌≤◌, ℕ, List, [], ◌∷◌, length, map, get_or, refl, ap, ◌∙◌, arith, Bool, true, false, ◌&&◌}
 use Rattle.std.specs.Prelude.{Option, Some, None, String, string_bytes, if◌then◌else◌}
 use Rattle.std.specs.declared.alloc.Global.{Global}
-use Rattle.session_defs.specs.Words.{Request, request_of, requested, is_plain, is_nesting, value_of}
+use Rattle.session_defs.specs.Words.{Request, request_of, requested, is_nesting, value_of}
 
 abbrev requests : List (String Global) → Option Request
 requests words = request_of (map string_bytes words)

@@ -1,10 +1,10 @@
 -- What follows from what a run does.
-use Rattle.std.proofs.Common.{◌≡◌, ◌⊎◌, inl, inr, ℕ, ◌+◌, ◌-◌, ◌^◌, ◌≤◌, ◌<◌, ◌↔◌, List, [], ◌∷◌, ◌++◌, length, refl, sym, ap, subst, ◌∙◌, arith, append-nil, length-append, Bool, true, false, min}
-use Rattle.std.specs.Prelude.{Option, Some, None, IfSome, option_map, ⊤}
+use Rattle.std.proofs.Common.{◌≡◌, ◌⊎◌, inl, inr, ℕ, ◌≤◌, ◌<◌, ◌↔◌, List, [], ◌++◌, length, refl, sym, ap, subst, ◌∙◌, arith, append-nil, length-append, true, false}
+use Rattle.std.specs.Prelude.{Option, Some, None, IfSome, ⊤}
 use Rattle.text_defs.specs.Text.{text_of, whole_lines}
-use Rattle.piece_io.specs.Told.{Told, Untold, Missing, Holds, appended, risen}
+use Rattle.piece_io.specs.Told.{Told, Holds, appended, risen}
 use Rattle.answer_defs.specs.Answers.{Settings, usual}
-use Rattle.session_defs.specs.Output.{is_accepted, output_of, written_so_far, written_for, script_lines, most_script_bytes}
+use Rattle.session_defs.specs.Output.{is_accepted, output_of, written_for, script_lines, most_script_bytes}
 use Rattle.session_defs.specs.Words.{Request}
 use Rattle.bracket_program.specs.Ends.{Outside, Takes, WritesFront, IsDone, IsCut, IsFront, IsEnd}
 use Rattle.bracket_program.specs.Run.{Opens, Refuses, SameCounts, Answered, IsRun, AnswersAll, AnswersTaken, WritesSome, Stands, AllStand}

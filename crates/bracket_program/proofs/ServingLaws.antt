@@ -1,11 +1,11 @@
 -- How answering a script goes on, and how it ends.
-use Rattle.std.proofs.Common.{◌≡◌, ℕ, ◌+◌, ◌≤◌, ◌<◌, List, [], ◌∷◌, ◌++◌, length, map, take, drop, refl, sym, ap, subst, ◌∙◌, arith, append_assoc, append-nil, length-append, false, true, Bool}
-use Rattle.std.specs.Prelude.{Option, Some, None, IfSome, option_map}
+use Rattle.std.proofs.Common.{◌≡◌, ℕ, ◌+◌, ◌≤◌, ◌<◌, List, [], ◌++◌, length, map, take, refl, sym, ap, subst, ◌∙◌, arith, append_assoc, append-nil, length-append, false, true}
+use Rattle.std.specs.Prelude.{Option, Some, None, IfSome}
 use Rattle.std.proofs.lemmas.List.{length-take}
 use Rattle.text_defs.specs.Text.{whole_lines, unfinished}
 use Rattle.piece_io.specs.Told.{GivesFront, appended, risen}
 use Rattle.piece_io.specs.Cuts.{Cutting, cuts_of, next_cut}
-use Rattle.piece_io.specs.CutLaws.{whole_lines-append, unfinished-append}
+use Rattle.piece_io.specs.CutLaws.{whole_lines-append}
 use Rattle.answer_defs.specs.Answers.{Settings}
 use Rattle.script_words.specs.ReplyText.{reply_text}
 use Rattle.script_words.specs.Script.{reading_of}
@@ -17,7 +17,7 @@ use Rattle.bracket_program.specs.Serving.{Serving}
 use Rattle.bracket_program.specs.declared.status.Status.{Status}
 use Rattle.bracket_program.specs.declared.status.Status.TheVariants as status
 use Rattle.bracket_program.proofs.LineReadings.{readings_given-going, readings_given-ended, pending-left}
-use Rattle.bracket_program.proofs.Replying.{appended-nil, appended-appended, nothing_written, front_of_more, none_written}
+use Rattle.bracket_program.proofs.Replying.{appended-appended, nothing_written, front_of_more, none_written}
 use Rattle.bracket_program.proofs.Scripts.{takes-nothing, takes-more, gives-takes, gives-end, takes-end, written_for-append, text_behind-lines, script_lines-append}
 
 -- the open reply is written, and nothing was taken

@@ -1,5 +1,5 @@
 -- What a whole run does, for each status that it ends with.
-use Rattle.std.specs.Prelude.{◌≡◌, ◌⊎◌, ℕ, ◌-◌, ◌^◌, ◌<◌, ◌≤◌, List, [], ◌∷◌, ◌++◌, Bool, true, false, Option, Some, None}
+use Rattle.std.specs.Prelude.{◌≡◌, ◌⊎◌, ℕ, ◌-◌, ◌^◌, ◌<◌, ◌≤◌, List, [], ◌++◌, true, false, Option, Some, None}
 use Rattle.text_defs.specs.Text.{text_of}
 use Rattle.piece_io.specs.Told.{Told, Untold, Missing, Holds, appended, risen}
 use Rattle.answer_defs.specs.Answers.{usual}

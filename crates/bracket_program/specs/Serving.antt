@@ -1,5 +1,5 @@
 -- While a script is answered: what was taken of it, and that each whole line of that has its reply.
-use Rattle.std.specs.Prelude.{◌≡◌, ℕ, ◌≤◌, List, length, map, false}
+use Rattle.std.specs.Prelude.{◌≡◌, ℕ, List, length, map, false}
 use Rattle.text_defs.specs.Text.{whole_lines, unfinished}
 use Rattle.piece_io.specs.Told.{appended}
 use Rattle.piece_io.specs.Cuts.{Cutting, cuts_of}

@@ -1,5 +1,5 @@
 -- A text file as it is read.
-use Rattle.std.specs.Prelude.{◌≡◌, ℕ, ◌≤◌, List, length, Bool, true, false}
+use Rattle.std.specs.Prelude.{◌≡◌, ℕ, ◌≤◌, List, length, false}
 use Rattle.text_defs.specs.Text.{is_text}
 use Rattle.piece_io.specs.Told.{Told, Untold, Missing, Holds}
 use Rattle.session_defs.specs.Output.{most_file_bytes}

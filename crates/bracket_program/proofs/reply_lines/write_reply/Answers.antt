@@ -1,4 +1,4 @@
-use Rattle.std.proofs.Common.{◌≡◌, ◌∙◌, sym, ap, take, drop}
+use Rattle.std.proofs.Common.{◌∙◌, take, drop}
 use Rattle.std.proofs.lemmas.List.{take-append-drop}
 use Rattle.bracket_program.proofs.reply_lines.write_reply.Goals as goal
 

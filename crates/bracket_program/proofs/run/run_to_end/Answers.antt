@@ -1,4 +1,4 @@
-use Rattle.std.proofs.Common.{◌≡◌, ◌∙◌, sym}
+use Rattle.std.proofs.Common.{sym}
 use Rattle.session_defs.specs.Words.{request_for}
 use Rattle.bracket_program.proofs.RunLaws.{run-answered}
 use Rattle.bracket_program.proofs.run.run_to_end.Goals as goal

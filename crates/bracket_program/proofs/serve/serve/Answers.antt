@@ -1,10 +1,10 @@
-use Rattle.std.proofs.Common.{◌≡◌, ◌∙◌, sym, ap, subst, refl, arith, rules, ◌+◌, ◌≤◌, length}
+use Rattle.std.proofs.Common.{◌≡◌, ◌∙◌, ap, subst, refl, arith}
 use Rattle.std.proofs.lemmas.Result.{err_from_is_err_and}
 use Rattle.piece_io.specs.Told.{appended}
 use Rattle.script_words.specs.ReplyText.{reply_text}
 use Rattle.session_defs.specs.Output.{most_script_bytes}
-use Rattle.bracket_program.specs.Ends.{Outside, outside, WritesFront}
-use Rattle.bracket_program.proofs.ServingLaws.{serving-start, serving-more, serving-done, serving-cut, front-at, front-more, front-last, front-opened, front-nothing, reply-end, More}
+use Rattle.bracket_program.specs.Ends.{outside, WritesFront}
+use Rattle.bracket_program.proofs.ServingLaws.{serving-start, serving-more, serving-done, serving-cut, front-at, front-more, front-last, front-opened, front-nothing, reply-end}
 use Rattle.bracket_program.proofs.serve.serve.Goals as goal
 
 pub returns-in_err-buffer-clause-ends : goal.returns-in_err-buffer-clause-ends

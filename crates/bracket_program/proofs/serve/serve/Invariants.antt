@@ -1,4 +1,4 @@
-use Rattle.std.proofs.Common.{◌≡◌, ◌-◌, ◌≤◌, length}
+use Rattle.std.proofs.Common.{◌≡◌, ◌-◌, ◌≤◌}
 use Rattle.session_defs.specs.Output.{most_script_bytes}
 use Rattle.bracket_program.specs.Ends.{outside}
 use Rattle.bracket_program.specs.Serving.{Serving}

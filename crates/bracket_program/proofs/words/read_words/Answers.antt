@@ -1,4 +1,4 @@
-use Rattle.std.proofs.Common.{◌∙◌, sym, ap, refl, arith, rules}
+use Rattle.std.proofs.Common.{arith, rules}
 use Rattle.std.proofs.lemmas.Bool.Decides.{nat_tests}
 use Rattle.bracket_program.proofs.Requests.{no_request-few, no_request-three, no_request-many, no_request-number}
 use Rattle.bracket_program.proofs.words.read_words.Goals as goal
