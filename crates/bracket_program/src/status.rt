@@ -23,8 +23,13 @@ pub enum Status {
 }
 
 impl Status {
+    ghost use Rattle.std.specs.Prelude.{option_map};
+    ghost use Rattle.bracket_program.specs.Statuses.{line_about, number_of};
+
     /// The number that the program ends with.
-    pub fn number(self) -> u8 {
+    pub fn number(self) -> u8
+        ensures { result ≡ number_of self }
+    {
         match self {
             Status::Done => 0,
             Status::Words => 2,
@@ -37,7 +42,9 @@ impl Status {
     }
 
     /// What is said of it on standard error.
-    pub fn line(self) -> Option<&'static str> {
+    pub fn line(self) -> Option<&'static str>
+        ensures { option_map (λ line. line.now) result ≡ line_about self }
+    {
         match self {
             Status::Done => None,
             Status::Words => Some("brackets: words"),
