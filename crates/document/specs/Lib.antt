@@ -1,2 +1,1 @@
-pub mod MarkedText
 pub mod State

@@ -1,9 +1,8 @@
-ghost use Rattle.std.specs.Prelude.{◌≡◌, ℕ, map, None, Some, Err, IfOk, IfErr, OnOk, OnErr, IsTrue};
-ghost use Rattle.text_defs.specs.Text.{line_count, lines_of};
+ghost use Rattle.std.specs.Prelude.{◌≡◌, ℕ, None, Some, Err, IfOk, IfErr, OnOk, OnErr, IsTrue};
+ghost use Rattle.text_defs.specs.Text.{line_count};
 ghost use Rattle.text_defs.specs.Batch.{batch_refusal, edited};
 ghost use Rattle.line_text.specs.BatchRefusals.{HasCause};
 ghost use Rattle.answer_defs.specs.Answers.{answer_of, question_refusal, rows_of, settings_of};
-ghost use Rattle.document.specs.MarkedText.{marked_line};
 ghost use Rattle.answer_defs.specs.declared.refusal.Refusal.TheVariants as refusal;
 
 use answer_defs::{Answer, Question};
@@ -123,9 +122,6 @@ impl Document {
     }
 }
 
-/// A text has at most so many characters.
-const MOST_CHARS: u32 = 4_194_304;
-
 /// A question asks for at most so many lines.
 const MOST_LINES: u32 = 4096;
 
@@ -138,26 +134,7 @@ fn pair_text(
 ) -> Result<Paired, AllocError>
     ensures { IfOk result (λ rows. rows ≡ rows_of (settings_of brackets.now limits) text.now) }
 {
-    let marks = mark_text(alloc, text, brackets, limits.long)?;
-    // There are no more marks than characters, so each row has a number.
-    let chars = text.chars();
-    prove!(chars <= MOST_CHARS);
+    let marks = MarkLines::of_text(alloc, brackets, text, limits.long)?;
     let rows = Paired::of(alloc, &marks, marks.end(), limits.nesting)?;
     Ok(rows)
-}
-
-/// The marks of each line.
-fn mark_text(
-    alloc: Global,
-    text: &Text,
-    brackets: &Brackets,
-    long: u32,
-) -> Result<MarkLines, AllocError>
-    ensures { IfOk result (λ lines. lines ≡ map (marked_line brackets.now long) (lines_of text.now)) }
-{
-    let mut marks = MarkLines::new(alloc);
-    for n in 0..text.lines() {
-        marks.push(brackets.marks(alloc, text.line(n), long)?)?;
-    }
-    Ok(marks)
 }
