@@ -1,28 +1,20 @@
 -- What follows from what a run does.
 use Rattle.std.proofs.Common.{◌≡◌, ◌⊎◌, inl, inr, ℕ, ◌≤◌, ◌<◌, ◌↔◌, List, [], ◌++◌, length, refl, sym, ap, subst, ◌∙◌, arith, append-nil, length-append, true, false}
-use Rattle.std.specs.Prelude.{Option, Some, None, IfSome, ⊤}
+use Rattle.std.specs.Prelude.{Option, Some, None, IfSome}
 use Rattle.text_defs.specs.Text.{text_of, whole_lines}
 use Rattle.piece_io.specs.Told.{Told, Holds, appended, risen}
 use Rattle.answer_defs.specs.Answers.{Settings, usual}
 use Rattle.session_defs.specs.Output.{is_accepted, output_of, written_for, script_lines, most_script_bytes}
 use Rattle.session_defs.specs.Words.{Request}
-use Rattle.bracket_program.specs.Ends.{Outside, Takes, WritesFront, IsDone, IsCut, IsFront, IsEnd}
+use Rattle.bracket_program.specs.Ends.{Outside, WritesFront, IsDone, IsCut, IsFront, IsEnd}
 use Rattle.bracket_program.specs.Run.{Opens, Refuses, SameCounts, Answered, IsRun, AnswersAll, AnswersTaken, WritesSome, Stands, AllStand}
 use Rattle.bracket_program.specs.declared.status.Status.{Status}
 use Rattle.bracket_program.specs.declared.status.Status.TheVariants as status
 use Rattle.bracket_program.proofs.Replying.{nothing_written}
-
--- of a told script, what was taken is a front
-taken_of : (script taken : List ℕ) (before after : Option (List ℕ)) → before ≡ Some script → Takes before after taken → (rest : List ℕ) × (script ≡ taken ++ rest) × (after ≡ Some rest)
-taken_of script taken before None e t = cc
-taken_of script taken before (Some rest) e t = let same : script ≡ taken ++ rest = cc in (rest, same, refl)
+use Rattle.bracket_program.proofs.Scripts.{taken_of, nothing_rest}
 
 opened_as : (told : Told) (file text : List ℕ) → told ≡ Holds file → Opens told text → (is_accepted file ≡ true) × (text ≡ text_of file)
 opened_as told file text e o = subst (λ t. Opens t text) e o
-
-nothing_rest : (after : Option (List ℕ)) (rest : List ℕ) → after ≡ Some rest → IfSome after (λ rest. rest ≡ []) → rest ≡ []
-nothing_rest None rest e n = cc
-nothing_rest (Some bytes) rest e n = let same : bytes ≡ rest = cc in sym same ∙ n
 
 answers_all : (contents : List ℕ → Told) (before after : Outside) (r : Request) → Answered r contents (IsDone before after (usual r.limits)) → AnswersAll contents before after r
 answers_all contents before after r a file script f l =
@@ -68,50 +60,6 @@ run-words contents faults faults' before after (Some r) s run = (
   λ e. absurd (subst (IsRun contents faults faults' before after (Some r)) e run),
   λ e. cc,
 )
-
-pub run-text_file : (contents : List ℕ → Told) (faults faults' : List ℕ → ℕ) (before after : Outside) (w : Option Request) (s : Status)
-    → IsRun contents faults faults' before after w s → s ≡ status.TextFile → IfSome w (λ r. Refuses (contents r.text))
-run-text_file contents faults faults' before after None s run e = tt
-run-text_file contents faults faults' before after (Some r) s run e = (subst (IsRun contents faults faults' before after (Some r)) e run).0
-
-pub run-untouched : (contents : List ℕ → Told) (faults faults' : List ℕ → ℕ) (before after : Outside) (w : Option Request) (s : Status)
-    → IsRun contents faults faults' before after w s → (s ≡ status.Words) ⊎ (s ≡ status.TextFile) → (after.left ≡ before.left) × (after.held ≡ before.held)
-run-untouched contents faults faults' before after None s run (inl e) =
-    let same = (subst (IsRun contents faults faults' before after None) e run).1 in (ap (λ o. o.left) same, ap (λ o. o.held) same)
-run-untouched contents faults faults' before after None s run (inr e) = absurd (subst (IsRun contents faults faults' before after None) e run)
-run-untouched contents faults faults' before after (Some r) s run (inl e) = absurd (subst (IsRun contents faults faults' before after (Some r)) e run)
-run-untouched contents faults faults' before after (Some r) s run (inr e) =
-    let same = (subst (IsRun contents faults faults' before after (Some r)) e run).2 in (ap (λ o. o.left) same, ap (λ o. o.held) same)
-
--- a read fault of the file, or of the script
-abbrev pub ReadFaults : (List ℕ → Told) → (List ℕ → ℕ) → (List ℕ → ℕ) → Outside → Outside → Request → Type 0
-ReadFaults contents faults faults' before after r =
-    ((risen (faults r.text) ≤ faults' r.text) × (after.left ≡ before.left) × (after.held ≡ before.held))
-    ⊎ ((risen before.reads ≤ after.reads) × AnswersTaken contents before after (λ _. ⊤) r)
-
-read_faults : (contents : List ℕ → Told) (faults faults' : List ℕ → ℕ) (before after : Outside) (r : Request)
-    → ((risen (faults r.text) ≤ faults' r.text) × (after ≡ before)) ⊎ (SameCounts faults faults' × Answered r contents (λ text. IsEnd before after (usual r.limits) text status.ReadFault))
-    → ReadFaults contents faults faults' before after r
-read_faults contents faults faults' before after r (inl f) = inl (f.0, ap (λ o. o.left) f.1, ap (λ o. o.held) f.1)
-read_faults contents faults faults' before after r (inr f) = inr (f.1.2.1, answers_taken contents before after r (λ _. ⊤) f.1.0 f.1.1 f.1.2.0 tt)
-
-pub run-read_fault : (contents : List ℕ → Told) (faults faults' : List ℕ → ℕ) (before after : Outside) (w : Option Request) (s : Status)
-    → IsRun contents faults faults' before after w s → s ≡ status.ReadFault → IfSome w (ReadFaults contents faults faults' before after)
-run-read_fault contents faults faults' before after None s run e = tt
-run-read_fault contents faults faults' before after (Some r) s run e =
-    read_faults contents faults faults' before after r (subst (IsRun contents faults faults' before after (Some r)) e run)
-
-pub run-write_fault : (contents : List ℕ → Told) (faults faults' : List ℕ → ℕ) (before after : Outside) (w : Option Request) (s : Status)
-    → IsRun contents faults faults' before after w s → s ≡ status.WriteFault → risen before.writes ≤ after.writes
-run-write_fault contents faults faults' before after None s run e = absurd (subst (IsRun contents faults faults' before after None) e run)
-run-write_fault contents faults faults' before after (Some r) s run e = (subst (IsRun contents faults faults' before after (Some r)) e run).1.2.1
-
-pub run-script_full : (contents : List ℕ → Told) (faults faults' : List ℕ → ℕ) (before after : Outside) (w : Option Request) (s : Status)
-    → IsRun contents faults faults' before after w s → s ≡ status.ScriptFull → IfSome w (AnswersTaken contents before after (λ taken. length taken ≡ most_script_bytes))
-run-script_full contents faults faults' before after None s run e = tt
-run-script_full contents faults faults' before after (Some r) s run e =
-    let a = (subst (IsRun contents faults faults' before after (Some r)) e run).1 in
-    answers_taken contents before after r (λ taken. length taken ≡ most_script_bytes) a.0 a.1 a.2.0 a.2.1
 
 memory_front : (contents : List ℕ → Told) (before after : Outside) (r : Request)
     → (after ≡ before) ⊎ Answered r contents (λ text. IsEnd before after (usual r.limits) text status.Memory) → WritesSome contents before after r
@@ -160,22 +108,6 @@ run-completes contents faults faults' before after r status.ScriptFull run file 
     let t = taken_of script cut.script before.left after.left l cut.takes in
     absurd (shorter script cut.script t.0 t.1 n run.1.2.1)
 
-pub run-refuses : (contents : List ℕ → Told) (faults faults' : List ℕ → ℕ) (before after : Outside) (r : Request) (s : Status)
-    → IsRun contents faults faults' before after (Some r) s
-    → (file : List ℕ) → contents r.text ≡ Holds file → is_accepted file ≡ false → Stands (faults r.text) (faults' r.text) → (s ≡ status.TextFile) ⊎ (s ≡ status.Memory)
-run-refuses contents faults faults' before after r status.TextFile run file f a st = inl refl
-run-refuses contents faults faults' before after r status.Memory run file f a st = inr refl
-run-refuses contents faults faults' before after r status.Words run file f a st = absurd run
-run-refuses contents faults faults' before after r status.Done run file f a st = let o = (opened_as (contents r.text) file run.1.0 f run.1.1).0 in cc
-run-refuses contents faults faults' before after r status.WriteFault run file f a st = let o = (opened_as (contents r.text) file run.1.0 f run.1.1).0 in cc
-run-refuses contents faults faults' before after r status.ScriptFull run file f a st = let o = (opened_as (contents r.text) file run.1.0 f run.1.1).0 in cc
-run-refuses contents faults faults' before after r status.ReadFault run file f a st = refused_fault run
-  where
-    refused_fault : ((risen (faults r.text) ≤ faults' r.text) × (after ≡ before)) ⊎ (SameCounts faults faults' × Answered r contents (λ text. IsEnd before after (usual r.limits) text status.ReadFault))
-        → (status.ReadFault ≡ status.TextFile) ⊎ (status.ReadFault ≡ status.Memory)
-    refused_fault (inl h) = absurd (not_risen (faults r.text) (faults' r.text) st h.0)
-    refused_fault (inr h) = let o = (opened_as (contents r.text) file h.1.0 f h.1.1).0 in cc
-
 -- a script of which not all is taken, or all without its end being read
 whole_short : (script taken rest : List ℕ) → script ≡ taken ++ rest → rest ≡ [] → length taken < most_script_bytes → most_script_bytes ≤ length script → ⊥
 whole_short script taken rest e n s m = omega (arith, ap length e, length-append taken rest, ap length n)
@@ -195,63 +127,6 @@ run-fills contents faults faults' before after r status.Done run file script f a
     let d = run.1.2 in
     let t = taken_of script d.script before.left after.left l d.takes in
     absurd (whole_short script d.script t.0 t.1 (nothing_rest after.left t.0 t.2 d.ended) d.short n)
-
--- ---- a fault ends the run
-
-pub run-file_rise : (contents : List ℕ → Told) (faults faults' : List ℕ → ℕ) (before after : Outside) (r : Request) (s : Status)
-    → IsRun contents faults faults' before after (Some r) s → faults r.text < faults' r.text → s ≡ status.ReadFault
-run-file_rise contents faults faults' before after r status.ReadFault run h = refl
-run-file_rise contents faults faults' before after r status.Words run h = absurd run
-run-file_rise contents faults faults' before after r status.TextFile run h = absurd (omega (arith, run.1 r.text))
-run-file_rise contents faults faults' before after r status.Done run h = absurd (omega (arith, run.0 r.text))
-run-file_rise contents faults faults' before after r status.WriteFault run h = absurd (omega (arith, run.0 r.text))
-run-file_rise contents faults faults' before after r status.ScriptFull run h = absurd (omega (arith, run.0 r.text))
-run-file_rise contents faults faults' before after r status.Memory run h = absurd (omega (arith, run.0 r.text))
-
-memory_counts : (contents : List ℕ → Told) (before after : Outside) (r : Request)
-    → (after ≡ before) ⊎ Answered r contents (λ text. IsEnd before after (usual r.limits) text status.Memory) → (after.writes ≡ before.writes) × (after.reads ≡ before.reads)
-memory_counts contents before after r (inl same) = (ap (λ o. o.writes) same, ap (λ o. o.reads) same)
-memory_counts contents before after r (inr a) = (a.2.1, a.2.2)
-
-pub run-script_rise : (contents : List ℕ → Told) (faults faults' : List ℕ → ℕ) (before after : Outside) (w : Option Request) (s : Status)
-    → IsRun contents faults faults' before after w s → before.reads < after.reads → s ≡ status.ReadFault
-run-script_rise contents faults faults' before after None status.Words run h = absurd (omega (arith, ap (λ (o : Outside). o.reads) run.1))
-run-script_rise contents faults faults' before after None status.Done run h = absurd run
-run-script_rise contents faults faults' before after None status.TextFile run h = absurd run
-run-script_rise contents faults faults' before after None status.ReadFault run h = refl
-run-script_rise contents faults faults' before after None status.WriteFault run h = absurd run
-run-script_rise contents faults faults' before after None status.ScriptFull run h = absurd run
-run-script_rise contents faults faults' before after None status.Memory run h = absurd run
-run-script_rise contents faults faults' before after (Some r) status.ReadFault run h = refl
-run-script_rise contents faults faults' before after (Some r) status.Words run h = absurd run
-run-script_rise contents faults faults' before after (Some r) status.TextFile run h = absurd (omega (arith, ap (λ (o : Outside). o.reads) run.2))
-run-script_rise contents faults faults' before after (Some r) status.Done run h = absurd (omega (arith, run.1.2.reads_stand))
-run-script_rise contents faults faults' before after (Some r) status.WriteFault run h = absurd (omega (arith, run.1.2.2))
-run-script_rise contents faults faults' before after (Some r) status.ScriptFull run h = absurd (omega (arith, run.1.2.2))
-run-script_rise contents faults faults' before after (Some r) status.Memory run h = absurd (omega (arith, (memory_counts contents before after r run.1).1))
-
-fault_writes : (contents : List ℕ → Told) (faults faults' : List ℕ → ℕ) (before after : Outside) (r : Request)
-    → ((risen (faults r.text) ≤ faults' r.text) × (after ≡ before)) ⊎ (SameCounts faults faults' × Answered r contents (λ text. IsEnd before after (usual r.limits) text status.ReadFault))
-    → after.writes ≡ before.writes
-fault_writes contents faults faults' before after r (inl h) = ap (λ o. o.writes) h.1
-fault_writes contents faults faults' before after r (inr h) = h.1.2.0.writes_stand
-
-pub run-sink_rise : (contents : List ℕ → Told) (faults faults' : List ℕ → ℕ) (before after : Outside) (w : Option Request) (s : Status)
-    → IsRun contents faults faults' before after w s → before.writes < after.writes → s ≡ status.WriteFault
-run-sink_rise contents faults faults' before after None status.Words run h = absurd (omega (arith, ap (λ (o : Outside). o.writes) run.1))
-run-sink_rise contents faults faults' before after None status.Done run h = absurd run
-run-sink_rise contents faults faults' before after None status.TextFile run h = absurd run
-run-sink_rise contents faults faults' before after None status.ReadFault run h = absurd run
-run-sink_rise contents faults faults' before after None status.WriteFault run h = refl
-run-sink_rise contents faults faults' before after None status.ScriptFull run h = absurd run
-run-sink_rise contents faults faults' before after None status.Memory run h = absurd run
-run-sink_rise contents faults faults' before after (Some r) status.WriteFault run h = refl
-run-sink_rise contents faults faults' before after (Some r) status.Words run h = absurd run
-run-sink_rise contents faults faults' before after (Some r) status.TextFile run h = absurd (omega (arith, ap (λ (o : Outside). o.writes) run.2))
-run-sink_rise contents faults faults' before after (Some r) status.Done run h = absurd (omega (arith, run.1.2.writes_stand))
-run-sink_rise contents faults faults' before after (Some r) status.ReadFault run h = absurd (omega (arith, fault_writes contents faults faults' before after r run))
-run-sink_rise contents faults faults' before after (Some r) status.ScriptFull run h = absurd (omega (arith, run.1.2.0.writes_stand))
-run-sink_rise contents faults faults' before after (Some r) status.Memory run h = absurd (omega (arith, (memory_counts contents before after r run.1).0))
 
 -- ---- the same for each request that words may make
 

@@ -77,3 +77,13 @@ script_lines-append xs ys =
     ap (λ lines. lines ++ line_if_any (unfinished (xs ++ ys))) (whole_lines-append xs ys)
     ∙ (ap (λ last. (whole_lines xs ++ whole_lines (unfinished xs ++ ys)) ++ line_if_any last) (unfinished-append xs ys)
     ∙ append_assoc (whole_lines xs) (whole_lines (unfinished xs ++ ys)) (line_if_any (unfinished (unfinished xs ++ ys))))
+
+-- of a told script, what was taken is a front
+pub taken_of : (script taken : List ℕ) (before after : Option (List ℕ)) → before ≡ Some script → Takes before after taken → (rest : List ℕ) × (script ≡ taken ++ rest) × (after ≡ Some rest)
+taken_of script taken before None e t = cc
+taken_of script taken before (Some rest) e t = let same : script ≡ taken ++ rest = cc in (rest, same, refl)
+
+-- nothing is left of a script that was read to its end
+pub nothing_rest : (after : Option (List ℕ)) (rest : List ℕ) → after ≡ Some rest → IfSome after (λ rest. rest ≡ []) → rest ≡ []
+nothing_rest None rest e n = cc
+nothing_rest (Some bytes) rest e n = let same : bytes ≡ rest = cc in sym same ∙ n

@@ -1,6 +1,6 @@
 -- How answering a script goes on, and how it ends.
 use Rattle.std.proofs.Common.{◌≡◌, ℕ, ◌+◌, ◌≤◌, ◌<◌, List, [], ◌++◌, length, map, take, refl, sym, ap, subst, ◌∙◌, arith, append_assoc, append-nil, length-append, false, true}
-use Rattle.std.specs.Prelude.{Option, Some, None, IfSome}
+use Rattle.std.specs.Prelude.{Some, None}
 use Rattle.std.proofs.lemmas.List.{length-take}
 use Rattle.text_defs.specs.Text.{whole_lines, unfinished}
 use Rattle.piece_io.specs.Told.{GivesFront, appended, risen}
@@ -18,7 +18,7 @@ use Rattle.bracket_program.specs.declared.status.Status.{Status}
 use Rattle.bracket_program.specs.declared.status.Status.TheVariants as status
 use Rattle.bracket_program.proofs.LineReadings.{readings_given-going, readings_given-ended, pending-left}
 use Rattle.bracket_program.proofs.Replying.{appended-appended, nothing_written, front_of_more, none_written}
-use Rattle.bracket_program.proofs.Scripts.{takes-nothing, takes-more, gives-takes, gives-end, takes-end, written_for-append, text_behind-lines, script_lines-append}
+use Rattle.bracket_program.proofs.Scripts.{nothing_rest, taken_of, takes-nothing, takes-more, gives-takes, gives-end, takes-end, written_for-append, text_behind-lines, script_lines-append}
 
 -- the open reply is written, and nothing was taken
 pub serving-start : (before now : Outside) (settings : Settings) (text : List ℕ) (cutter : Cutting)
@@ -123,11 +123,6 @@ serving-cut {before} s m l h w = record {
   writes_stand = w ∙ s.writes_stand;
 }
 
--- of a told script, what was taken is a front
-rest_of : (bytes script : List ℕ) (before now : Option (List ℕ)) → before ≡ Some bytes → Takes before now script → (rest : List ℕ) × (now ≡ Some rest) × (bytes ≡ script ++ rest)
-rest_of bytes script before None e t = cc
-rest_of bytes script before (Some rest) e t = let same : bytes ≡ script ++ rest = cc in (rest, refl, same)
-
 -- where a front of the replies to the next lines was added, what was written is a front of all
 front-of : {before now : Outside} (after : Outside) {settings : Settings} {first text : List ℕ} {cutter : Cutting} {taken : ℕ} (s : Serving before now settings first text cutter taken) (lines : List (List ℕ))
     → ((bytes : List ℕ) → before.left ≡ Some bytes → (more : List (List ℕ)) × (script_lines bytes ≡ whole_lines s.script ++ (lines ++ more)))
@@ -154,8 +149,8 @@ pub front-at : {before now : Outside} (after : Outside) {settings : Settings} {f
     → Serving before now settings first text cutter taken → after.held ≡ now.held → IsFront before after settings first
 front-at {before} {now} after {settings} {first} {text} s h =
     front-of after s []
-    (λ bytes told. let r = rest_of bytes s.script before.left now.left told s.takes in
-    (script_lines (unfinished s.script ++ r.0), ap script_lines r.2 ∙ script_lines-append s.script r.0))
+    (λ bytes told. let r = taken_of bytes s.script before.left now.left told s.takes in
+    (script_lines (unfinished s.script ++ r.0), ap script_lines r.1 ∙ script_lines-append s.script r.0))
     (subst (λ held. WritesFront now.held held []) (sym h) (nothing_written now.held []))
 
 -- the replies to the whole lines of the next piece were cut short
@@ -168,9 +163,9 @@ front-more {before} {now} after {settings} {first} {text} same fed n into o s g 
     let last = unfinished s.script ++ piece in
     let readings = readings_given-going fed.cuts fed.ended last (feeds (unfinished s.script) s.pending) going in
     front-of after s (whole_lines last)
-    (λ bytes told. let r = rest_of bytes (s.script ++ piece) before.left after.left told (takes-more before.left now.left after.left s.script piece s.takes (gives-takes now.left after.left n into g)) in (
+    (λ bytes told. let r = taken_of bytes (s.script ++ piece) before.left after.left told (takes-more before.left now.left after.left s.script piece s.takes (gives-takes now.left after.left n into g)) in (
       script_lines (unfinished last ++ r.0),
-      ap script_lines (r.2 ∙ append_assoc s.script piece r.0)
+      ap script_lines (r.1 ∙ append_assoc s.script piece r.0)
           ∙ (script_lines-append s.script (piece ++ r.0)
           ∙ ap (λ lines. whole_lines s.script ++ lines) (ap script_lines (sym (append_assoc (unfinished s.script) piece r.0)) ∙ script_lines-append last r.0)),
     ))
@@ -185,13 +180,9 @@ front-last {before} {now} after {settings} {first} {text} same last n into o s z
     let readings = readings_given-ended last.cuts last.ended s.script (c ∙ s.pending) e in
     let lines = line_if_any (unfinished s.script) in
     front-of after s lines
-    (λ bytes told. let r = rest_of bytes s.script before.left after.left told (takes-end before.left now.left after.left s.script n into z g s.takes) in
-    ([], ap script_lines (r.2 ∙ (ap (λ rest. s.script ++ rest) (all-taken after.left r.0 r.1 (gives-end now.left after.left n into z g)) ∙ append-nil s.script)) ∙ ap (λ ls. whole_lines s.script ++ ls) (sym (append-nil lines))))
+    (λ bytes told. let r = taken_of bytes s.script before.left after.left told (takes-end before.left now.left after.left s.script n into z g s.takes) in
+    ([], ap script_lines (r.1 ∙ (ap (λ rest. s.script ++ rest) (nothing_rest after.left r.0 r.2 (gives-end now.left after.left n into z g)) ∙ append-nil s.script)) ∙ ap (λ ls. whole_lines s.script ++ ls) (sym (append-nil lines))))
     (subst (λ all. WritesFront now.held after.held all) (ap (λ p. replies_to p text (map cut_reading (given last))) o ∙ ap (replies_to settings text) readings) f)
-  where
-    all-taken : (left : Option (List ℕ)) (rest : List ℕ) → left ≡ Some rest → IfSome left (λ rest. rest ≡ []) → rest ≡ []
-    all-taken None rest e n = cc
-    all-taken (Some bytes) rest e n = cc
 
 -- an end at a reply is an end of the run
 pub reply-end : (before after : Outside) (settings : Settings) (text : List ℕ) (writes : ℕ) (e : Status) → writes ≡ before.writes → after.reads ≡ before.reads
