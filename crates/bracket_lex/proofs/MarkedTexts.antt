@@ -8,7 +8,7 @@ use Rattle.text_defs.specs.Text.{lines_of, line_in, onto_first, all_but_last, la
 use Rattle.text_defs.specs.Place.{place_of}
 use Rattle.pairing_defs.specs.declared.BracketText.{BracketText}
 use Rattle.pairing_defs.specs.declared.LineMark.{LineMark}
-use Rattle.pairing_defs.specs.Marks.{bracket_at, marked, further, marks_from, marks_of, placed, marks_of_lines, text_marks}
+use Rattle.pairing_defs.specs.Marks.{bracket_at, marked, further, marks_from, marks_of, on_line, marks_of_lines, text_marks}
 use Rattle.bracket_lex.specs.MarkedLine.{MarkedLine, last_length, text_end, marks_in, marked_line}
 
 -- ---- one more line
@@ -79,8 +79,8 @@ lines_few texts long n [] = omega arith
 lines_few texts long n (line ∷ lines) =
     let here = marks_few texts long line in
     let rest = lines_few texts long (n + 1) lines in
-    let total = length-append (map (placed n) (marks_of texts long line)) (marks_of_lines (n + 1) (map (marks_of texts long) lines)) in
-    omega (arith, total, length-map (marks_of texts long line) (placed n), sum_by-cons length line lines)
+    let total = length-append (map (on_line n) (marks_of texts long line)) (marks_of_lines (n + 1) (map (marks_of texts long) lines)) in
+    omega (arith, total, length-map (marks_of texts long line) (on_line n), sum_by-cons length line lines)
 
 onto_few : (c : ℕ) (lines : List (List ℕ)) → sum_by length (onto_first c lines) ≤ suc (sum_by length lines)
 onto_few c [] = omega arith

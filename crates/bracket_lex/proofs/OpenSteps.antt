@@ -9,7 +9,7 @@ use Rattle.pairing_defs.specs.declared.Mark.{Mark}
 use Rattle.pairing_defs.specs.declared.Role.{Role}
 use Rattle.pairing_defs.specs.declared.Role.TheVariants.{Opener, Closer}
 use Rattle.pairing_defs.specs.declared.Row.{Row}
-use Rattle.pairing_defs.specs.Marks.{placed}
+use Rattle.pairing_defs.specs.Marks.{on_line}
 use Rattle.pairing_defs.specs.Pairing.{Entry, Open, Placed, of_kind, from_last, opener_row, closer_row, rows_by, open_by, placed_from, open_after}
 use Rattle.bracket_lex.specs.Pairing.{Progress, open_in, placed_of}
 use Rattle.bracket_lex.proofs.Stack.{of_kind-reverse}
@@ -48,14 +48,14 @@ rows_by-short limit state m (Closer kinds) = omega arith
 -- the next mark of a line
 pub line_rows : (limit n i : ℕ) (old new : Progress) (marks : List LineMark) (d : LineMark)
     → i < length marks
-    → new.rows ≡ old.rows ++ rows_by limit (open_in old) (placed n (get_or marks i d)) (get_or marks i d).role
+    → new.rows ≡ old.rows ++ rows_by limit (open_in old) (on_line n (get_or marks i d)) (get_or marks i d).role
     → open_in new ≡ open_by limit (open_in old) (get_or marks i d).role
-    → new.rows ++ placed_from limit (open_in new) (map (placed n) (drop (i + 1) marks)) ≡ old.rows ++ placed_from limit (open_in old) (map (placed n) (drop i marks))
+    → new.rows ++ placed_from limit (open_in new) (map (on_line n) (drop (i + 1) marks)) ≡ old.rows ++ placed_from limit (open_in old) (map (on_line n) (drop i marks))
 line_rows limit n i old new marks d below rows opened =
     rw (drop-cons marks i d below, add-one i, opened, rows) (append_assoc old.rows _ _)
 
 pub line_open : (limit n i : ℕ) (old new : Progress) (marks : List LineMark) (d : LineMark)
     → i < length marks
     → open_in new ≡ open_by limit (open_in old) (get_or marks i d).role
-    → open_after limit (open_in new) (map (placed n) (drop (i + 1) marks)) ≡ open_after limit (open_in old) (map (placed n) (drop i marks))
+    → open_after limit (open_in new) (map (on_line n) (drop (i + 1) marks)) ≡ open_after limit (open_in old) (map (on_line n) (drop i marks))
 line_open limit n i old new marks d below opened = rw (drop-cons marks i d below, add-one i, opened) refl

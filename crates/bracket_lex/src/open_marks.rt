@@ -1,5 +1,5 @@
 ghost use Rattle.std.specs.Prelude.{◌≡◌, ◌<◌, ◌≤◌, ◌+◌, ◌^◌, ◌∷◌, ◌++◌, [], List, ℕ, length, map, reverse, take, slice_index_or, MatchOption, OnOk};
-ghost use Rattle.pairing_defs.specs.Marks.{placed};
+ghost use Rattle.pairing_defs.specs.Marks.{on_line};
 ghost use Rattle.pairing_defs.specs.Pairing.{Entry, Placed, of_kind, from_last, opener_row, after_opener, closer_row, left_open, rows_by, open_by, placed_from, open_after};
 ghost use Rattle.bracket_lex.specs.Pairing.{Progress, open_in, placed_of};
 
@@ -159,9 +159,9 @@ impl OpenMarks {
         requires { length self.old.rows + length marks.now < 2 ^ 32 }
         ensures limit { self.new.limit ≡ self.old.limit }
         ensures rows { OnOk result (self.new.rows ≡ self.old.rows
-            ++ placed_from self.old.limit (open_in self.old) (map (placed n) marks.now)) }
+            ++ placed_from self.old.limit (open_in self.old) (map (on_line n) marks.now)) }
         ensures entries { OnOk result (open_in self.new
-            ≡ open_after self.old.limit (open_in self.old) (map (placed n) marks.now)) }
+            ≡ open_after self.old.limit (open_in self.old) (map (on_line n) marks.now)) }
         ensures bound { OnOk result (length self.new.rows ≤ length self.old.rows + length marks.now) }
     {
         for m in marks {

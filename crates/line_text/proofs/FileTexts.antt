@@ -3,7 +3,7 @@ use Rattle.std.proofs.Common.{◌≡◌, ℕ, ◌+◌, ◌^◌, ◌<◌, ◌≤�
 use Rattle.std.specs.Str.{chars, IsUtf8}
 use Rattle.std.proofs.lemmas.Str.{length-le-encodes, encodes-chars, utf8_valid_len-IsUtf8}
 use Rattle.std.proofs.lemmas.Bool.{eq-eqb, le-leb, and_from}
-use Rattle.text_defs.specs.Text.{norm, begins_with, without_mark, text_of, is_utf8, is_text, line_count, most_chars, most_lines}
+use Rattle.text_defs.specs.Text.{norm, begins_with, without_bom, text_of, is_utf8, is_text, line_count, most_chars, most_lines}
 use Rattle.line_text.specs.declared.size.Size.{Size}
 use Rattle.line_text.specs.Sizes.{IsSizeOf}
 use Rattle.line_text.proofs.CountedSizes.{line_count-cons}
@@ -21,13 +21,13 @@ length-cond : (b : Bool) (xs ys : List ℕ) (n : ℕ) → length xs ≤ n → le
 length-cond true xs ys n h i = h
 length-cond false xs ys n h i = i
 
-length-without_mark : (cs : List ℕ) → length (without_mark cs) ≤ length cs
-length-without_mark [] = omega arith
-length-without_mark (c ∷ cs) = length-cond (eqb c 65279) cs (c ∷ cs) (length (c ∷ cs)) (omega arith) (omega arith)
+length-without_bom : (cs : List ℕ) → length (without_bom cs) ≤ length cs
+length-without_bom [] = omega arith
+length-without_bom (c ∷ cs) = length-cond (eqb c 65279) cs (c ∷ cs) (length (c ∷ cs)) (omega arith) (omega arith)
 
 pub length-text_of : (bytes : List ℕ) → IsUtf8 bytes → length (text_of bytes) ≤ length bytes
 length-text_of bytes u =
-    omega (arith, length-norm (without_mark (chars bytes)), length-without_mark (chars bytes), length-le-encodes (chars bytes), ap length (encodes-chars bytes u))
+    omega (arith, length-norm (without_bom (chars bytes)), length-without_bom (chars bytes), length-le-encodes (chars bytes), ap length (encodes-chars bytes u))
 
 ends_line_le : (b : Bool) → cond b 1 0 ≤ 1
 ends_line_le true = omega arith

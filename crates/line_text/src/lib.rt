@@ -20,3 +20,6 @@ pub use edit::{Edit, EditRefusal};
 pub use edits::Edits;
 pub use read::TextRefusal;
 pub use text::{Line, Text};
+
+#[cfg(test)]
+mod tests;

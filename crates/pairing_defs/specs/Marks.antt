@@ -1,5 +1,5 @@
--- The marks of a line. That the longest text wins and that a very long line has none is this project's own;
--- the built-in pairs are those of most language configurations of VS Code.
+-- The marks of a line. That the longest text wins, that a very long line has none, and the three built-in
+-- pairs are this project's own.
 use Rattle.std.specs.Prelude.{ℕ, zero, suc, ◌+◌, ◌-◌, ◌==◌, List, [], ◌∷◌, ◌++◌, length, map, filter, Bool, false, nat_eq, nat_lt, nat_le, if◌then◌else◌, Option, Some, None}
 use Rattle.std.specs.List.{starts_with}
 use Rattle.text_pos.specs.KindSet.{only}
@@ -53,13 +53,13 @@ abbrev pub marks_of : List BracketText → ℕ → List ℕ → List LineMark
 marks_of texts long line = if nat_le long (length line) then [] else marks_from texts 0 0 line
 
 -- a mark of line n
-abbrev pub placed : ℕ → LineMark → Mark
-placed n m = record { at = record { line = n; col = m.from }; to = m.to; role = m.role }
+abbrev pub on_line : ℕ → LineMark → Mark
+on_line n m = record { at = record { line = n; col = m.from }; to = m.to; role = m.role }
 
 -- the marks of the lines from line n on, in order
 abbrev pub marks_of_lines : ℕ → List (List LineMark) → List Mark
 marks_of_lines n [] = []
-marks_of_lines n (ms ∷ lines) = map (placed n) ms ++ marks_of_lines (n + 1) lines
+marks_of_lines n (ms ∷ lines) = map (on_line n) ms ++ marks_of_lines (n + 1) lines
 
 -- the marks of a text, given by its lines
 abbrev pub text_marks : List BracketText → ℕ → List (List ℕ) → List Mark

@@ -3,7 +3,7 @@
 use Rattle.std.specs.Prelude.{ℕ, ◌+◌, ◌%◌, ◌==◌, List, [], ◌∷◌, ◌++◌, length, count_by, nat_le, if◌then◌else◌, Option, Some, None}
 use Rattle.text_pos.specs.declared.length.Pos.{Pos}
 use Rattle.text_pos.specs.declared.kinds.Kinds.{Kinds}
-use Rattle.text_pos.specs.KindSet.{holds}
+use Rattle.text_pos.specs.KindSet.{has_kind}
 use Rattle.pairing_defs.specs.declared.Role.{Role}
 use Rattle.pairing_defs.specs.declared.Role.TheVariants.{Opener, Closer}
 use Rattle.pairing_defs.specs.declared.Mark.{Mark}
@@ -33,7 +33,7 @@ of_kind kind entries = count_by (λ e. e.kind == kind) entries
 -- the last open entry of one of these kinds and all before it; none where there is no such entry
 abbrev pub from_last : Kinds → List Entry → List Entry
 from_last kinds [] = []
-from_last kinds (e ∷ below) = if holds kinds e.kind then e ∷ below else from_last kinds below
+from_last kinds (e ∷ below) = if has_kind kinds e.kind then e ∷ below else from_last kinds below
 
 -- An opener where `limit` entries are open is text and has no row. Any other is at the level of the entries
 -- open before it.
@@ -76,8 +76,7 @@ open_after limit state (m ∷ ms) = open_after limit (open_by limit state m.role
 abbrev pub nothing_open : Open
 nothing_open = record { rows = 0; entries = [] }
 
--- the first row, of those that have the numbers from `next` on, that closes row n or one before it: with it
--- entry n is no longer open
+-- the row of a closer with a partner: its number, where its mark starts, and the row that it closes
 pub record Removal : Type 0 where
   pub row : ℕ
   pub start : Pos
@@ -88,6 +87,7 @@ removal_by n next p None later = later
 removal_by n next p (Some closed) later =
     if nat_le closed n then Some (record { row = next; start = p.mark.at; closes = closed }) else later
 
+-- of the rows from number `next` on, the first that closes row n or one before it: with it row n is no longer open
 abbrev pub removal_of : ℕ → ℕ → List Placed → Option Removal
 removal_of n next [] = None
 removal_of n next (p ∷ ps) = removal_by n next p p.closes (removal_of n (next + 1) ps)

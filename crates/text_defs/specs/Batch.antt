@@ -36,7 +36,7 @@ abbrev pub edit_fault : List ℕ → Option Pos → ℕ → List TextEdit → Op
 edit_fault text before n [] = None
 edit_fault text before n (e ∷ es) = first_fault (is_in_range text e) (is_in_order before e) n (edit_fault text (Some e.span.to) (suc n) es)
 
--- the text from an offset on, with each span replaced by its text
+-- the text from an offset on, with each span replaced by its edit's text, whose line ends become LFs
 abbrev pub replaced : List ℕ → ℕ → List TextEdit → List ℕ
 replaced text at [] = drop at text
 replaced text at (e ∷ es) = take (offset_of text e.span.from - at) (drop at text) ++ (norm e.text ++ replaced text (offset_of text e.span.to) es)

@@ -20,18 +20,18 @@ norm [] = []
 norm (c ∷ cs) = end_normalised c cs (norm cs)
 
 -- the list without a first U+FEFF
-abbrev pub without_mark : List ℕ → List ℕ
-without_mark [] = []
-without_mark (c ∷ cs) = if c == 65279 then cs else c ∷ cs
+abbrev pub without_bom : List ℕ → List ℕ
+without_bom [] = []
+without_bom (c ∷ cs) = if c == 65279 then cs else c ∷ cs
 
--- whether the bytes are UTF-8; where they aren't, the first utf8_valid_len of them are characters, and no
--- character begins behind these
+-- whether the bytes are UTF-8: the first utf8_valid_len of them are whole characters, and at the byte behind these,
+-- where there is one, none begins
 abbrev pub is_utf8 : List ℕ → Bool
 is_utf8 bytes = utf8_valid_len bytes == length bytes
 
 -- the text that a file of UTF-8 stands for
 abbrev pub text_of : List ℕ → List ℕ
-text_of bytes = norm (without_mark (chars bytes))
+text_of bytes = norm (without_bom (chars bytes))
 
 -- c in front of the first of the lines
 abbrev pub onto_first : ℕ → List (List ℕ) → List (List ℕ)

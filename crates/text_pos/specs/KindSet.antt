@@ -7,8 +7,8 @@ use Rattle.text_pos.specs.declared.kinds.Kinds.{Kinds}
 abbrev pub is_set : ℕ → ℕ → Bool
 is_set n k = bit_at n k == 1
 
-abbrev pub holds : Kinds → ℕ → Bool
-holds kinds k = is_set kinds.bits k
+abbrev pub has_kind : Kinds → ℕ → Bool
+has_kind kinds k = is_set kinds.bits k
 
 -- the set of one kind
 abbrev pub only : ℕ → Kinds

@@ -1,5 +1,5 @@
 ghost use Rattle.std.specs.Prelude.{◌≡◌, ℕ, ◌^◌, ◌<◌, ◌&&◌, ◌||◌, ◌==◌, ◌↔◌, Bool, false, not, IsTrue};
-ghost use Rattle.text_pos.specs.KindSet.{is_set, holds, only};
+ghost use Rattle.text_pos.specs.KindSet.{is_set, has_kind, only};
 
 /// A set of kinds of brackets, which are numbers below 64.
 #[derive(Clone, Copy, Debug, PartialEq, Eq)]
@@ -30,14 +30,14 @@ fn bits_without(n: u64, other: u64) -> u64
 
 impl Kinds {
     pub fn empty() -> Kinds
-        ensures { (k : ℕ) → holds result k ≡ false }
+        ensures { (k : ℕ) → has_kind result k ≡ false }
     {
         Kinds { bits: 0 }
     }
 
     pub fn one(k: u32) -> Kinds
         requires { k < 64 }
-        ensures members { (j : ℕ) → holds result j ≡ (j == k) }
+        ensures members { (j : ℕ) → has_kind result j ≡ (j == k) }
         ensures value { result ≡ only k }
     {
         Kinds { bits: 1 << k }
@@ -45,7 +45,7 @@ impl Kinds {
 
     /// The kinds of either set.
     pub fn with(self, other: Kinds) -> Kinds
-        ensures { (k : ℕ) → holds result k ≡ (holds self k || holds other k) }
+        ensures { (k : ℕ) → has_kind result k ≡ (has_kind self k || has_kind other k) }
     {
         Kinds {
             bits: self.bits | other.bits,
@@ -54,7 +54,7 @@ impl Kinds {
 
     /// The kinds of the first set that aren't in the second.
     pub fn without(self, other: Kinds) -> Kinds
-        ensures { (k : ℕ) → k < 64 → holds result k ≡ (holds self k && not (holds other k)) }
+        ensures { (k : ℕ) → k < 64 → has_kind result k ≡ (has_kind self k && not (has_kind other k)) }
     {
         Kinds {
             bits: bits_without(self.bits, other.bits),
@@ -63,13 +63,13 @@ impl Kinds {
 
     /// Whether the sets have a kind in common.
     pub fn meets(self, other: Kinds) -> bool
-        ensures { IsTrue result ↔ ((k : ℕ) × IsTrue (holds self k && holds other k)) }
+        ensures { IsTrue result ↔ ((k : ℕ) × IsTrue (has_kind self k && has_kind other k)) }
     {
         has_any_bit(self.bits & other.bits)
     }
 
     pub fn has(self, k: u32) -> bool
-        ensures { result ≡ holds self k }
+        ensures { result ≡ has_kind self k }
     {
         has_bit(self.bits, k)
     }
