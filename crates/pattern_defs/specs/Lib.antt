@@ -1,0 +1,4 @@
+pub mod Attempt
+pub mod AttemptExamples
+pub mod FirstMatch
+pub mod Patterns

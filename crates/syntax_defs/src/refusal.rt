@@ -1,0 +1,21 @@
+use thiserror::Error;
+
+/// Why a text is no pattern. Places count characters from 0. The forms are those of Oniguruma's RE with Ruby
+/// syntax; the limits, and which forms are left out, are this project's own.
+#[derive(Debug, Drop, Error)]
+pub enum PatternRefusal {
+    /// The item that begins here can't be read, or the text ends where something isn't closed.
+    #[error("syntax")]
+    Syntax { at: u64 },
+    /// The item that begins here is of a form that is left out.
+    #[error("left out")]
+    LeftOut { at: u64 },
+    /// Groups and classes nest so deep, or so many repeats stand on one item.
+    #[error("too deep")]
+    TooDeep { depth: u64 },
+    /// The text has so many characters.
+    #[error("too long")]
+    TooLong { count: u64 },
+    #[error("memory")]
+    Memory,
+}
