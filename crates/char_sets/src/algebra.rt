@@ -1,10 +1,10 @@
-ghost use Rattle.std.specs.Prelude.{◌≡◌, ◌≤◌, ◌<◌, ◌+◌, ℕ, Bool, true, ◌&&◌, ◌||◌, not, length, nat_le, IfOk};
+ghost use Rattle.std.specs.Prelude.{◌≡◌, ◌≤◌, ◌<◌, ◌+◌, ℕ, Bool, true, false, ◌&&◌, ◌||◌, not, length, nat_le, IfOk};
 ghost use Rattle.char_sets.specs.Ranges.{in_set, rises, IsSetOf};
 ghost use Rattle.char_sets.specs.Case.{other_case, in_either_case};
 ghost use Rattle.char_sets.specs.Keep.{kept};
 
 use crate::char_set::{CharRange, CharSet};
-use crate::stretch::{END, has_code, stretch_at};
+use crate::stretch::{END, Stretch, has_code, stretch_at};
 use std::alloc::{AllocError, Global};
 
 /// What a set made of two has.
@@ -33,8 +33,25 @@ const ALL: [CharRange; 1] = [CharRange {
     last: 0x10_FFFF,
 }];
 
-/// The ranges of what two have together. It goes over the codes from one stretch to the next; `open` is where the
-/// last range that isn't yet written began.
+/// From the code on: how far all codes are in the set made of two, or none is.
+fn joined_at(a: &[CharRange], b: &[CharRange], keep: Keep, code: u32) -> Stretch
+    requires first { rises 0 a.now ≡ true }
+    requires second { rises 0 b.now ≡ true }
+    requires within { code < 1_114_112 }
+    ensures all { (c : ℕ) → code ≤ c → c < result.end → kept keep (in_set a.now c) (in_set b.now c) ≡ result.has }
+    ensures further { code < result.end }
+    ensures end { result.end ≤ 1_114_112 }
+{
+    let in_a = stretch_at(a, code);
+    let in_b = stretch_at(b, code);
+    Stretch {
+        has: keep.holds(in_a.has, in_b.has),
+        end: in_a.end.min(in_b.end),
+    }
+}
+
+/// The ranges of what two have together. It goes over the codes from one stretch to the next; `start` is where the
+/// range that isn't yet written began.
 pub(crate) fn joined(
     alloc: Global,
     a: &[CharRange],
@@ -46,26 +63,24 @@ pub(crate) fn joined(
     ensures { IfOk result (λ s. IsSetOf s (λ c. kept keep (in_set a.now c) (in_set b.now c))) }
 {
     let mut ranges = Vec::new(alloc);
-    let mut open = 0;
+    let mut start = 0;
     let mut at = 0;
     while at < END {
-        let in_a = stretch_at(a, at);
-        let in_b = stretch_at(b, at);
-        let end = in_a.end.min(in_b.end);
-        if !keep.holds(in_a.has, in_b.has) {
-            if open < at {
+        let next = joined_at(a, b, keep, at);
+        if !next.has {
+            if start < at {
                 ranges.push(CharRange {
-                    first: open,
+                    first: start,
                     last: at - 1,
                 })?;
             }
-            open = end;
+            start = next.end;
         }
-        at = end;
+        at = next.end;
     }
-    if open < END {
+    if start < END {
         ranges.push(CharRange {
-            first: open,
+            first: start,
             last: END - 1,
         })?;
     }
@@ -83,6 +98,25 @@ fn in_other_case(code: u32) -> u32
         97..=122 => code - 32,
         _ => code,
     }
+}
+
+/// The ASCII characters whose other case is in the ranges, a range for each.
+fn in_other_case_of(alloc: Global, ranges: &[CharRange]) -> Result<Vec<CharRange>, AllocError>
+    requires { rises 0 ranges.now ≡ true }
+    ensures rising { IfOk result (λ out. rises 0 out.items ≡ true) }
+    ensures ascii { IfOk result (λ out. (c : ℕ) → c < 128 → in_set out.items c ≡ in_set ranges.now (other_case c)) }
+    ensures others { IfOk result (λ out. (c : ℕ) → 128 ≤ c → in_set out.items c ≡ false) }
+{
+    let mut out = Vec::new(alloc);
+    for code in 0..128 {
+        if has_code(ranges, in_other_case(code)) {
+            out.push(CharRange {
+                first: code,
+                last: code,
+            })?;
+        }
+    }
+    Ok(out)
 }
 
 impl CharSet {
@@ -118,15 +152,7 @@ impl CharSet {
     pub fn with_other_case(&self, alloc: Global) -> Result<CharSet, AllocError>
         ensures { IfOk result (λ s. IsSetOf s (in_either_case self.now)) }
     {
-        let mut letters = Vec::new(alloc);
-        for code in 0..128 {
-            if has_code(self.ranges(), in_other_case(code)) {
-                letters.push(CharRange {
-                    first: code,
-                    last: code,
-                })?;
-            }
-        }
+        let letters = in_other_case_of(alloc, self.ranges())?;
         joined(alloc, self.ranges(), &letters, Keep::Either)
     }
 }
