@@ -7,4 +7,4 @@ pub mod named;
 mod stretch;
 
 pub use char_set::{CharRange, CharSet};
-pub use named::is_word_char;
+pub use named::{NamedSet, is_word_char};
