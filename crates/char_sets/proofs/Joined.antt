@@ -1,26 +1,16 @@
 -- A set that is read off from one stretch of codes to the next.
 use Rattle.std.proofs.Common.{◌≡◌, ℕ, ◌-◌, ◌<◌, ◌≤◌, Bool, true, false, ◌&&◌, ◌||◌, not, nat_le, List, [], ◌∷◌, ◌++◌, refl, sym, ap, subst, ◌∙◌, arith, inl, inr, le-leb, lt-ltb, le-ltb}
+use Rattle.std.proofs.Math.Bool.{or-true, or-false, and-true}
 use Rattle.std.proofs.lemmas.Bool.{cases_lt, lt-leb}
 use Rattle.std.proofs.lemmas.List.Folds.{list_any-append}
 use Rattle.char_sets.specs.Ranges.{in_range, in_set, rises, closed, IsSetOf}
 use Rattle.char_sets.specs.declared.char_set.CharRange.{CharRange}
 use Rattle.char_sets.proofs.Rising.{after_all, after_all-nil, after_all-append, in_set-after, rises-append, rises-nil}
 
-pub or-true : (b : Bool) → (b || true) ≡ true
-or-true true = refl
-or-true false = refl
-
-pub or-false : (b : Bool) → (b || false) ≡ b
-or-false true = refl
-or-false false = refl
-
+-- what `!` was true of
 pub false-from-not : (b : Bool) → not b ≡ true → b ≡ false
 false-from-not true e = sym e
 false-from-not false e = refl
-
-and-true : (b : Bool) → (b && true) ≡ b
-and-true true = refl
-and-true false = refl
 
 -- below a place, the ranges and the codes from `start` on are those that pass the test
 pub record Joined (ranges : List CharRange) (start at : ℕ) (p : ℕ → Bool) : Type 0 where

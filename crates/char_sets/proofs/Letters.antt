@@ -6,7 +6,7 @@ use Rattle.char_sets.specs.Ranges.{in_range, in_set, rises}
 use Rattle.char_sets.specs.Case.{other_case}
 use Rattle.char_sets.specs.declared.char_set.CharRange.{CharRange}
 use Rattle.char_sets.proofs.Rising.{after_all, after_all-nil, after_all-append, in_set-after, rises-append, rises-nil, in_range-below, in_range-inside}
-use Rattle.char_sets.proofs.Joined.{or-true, or-false}
+use Rattle.std.proofs.Math.Bool.{or-true, or-false}
 
 -- the ranges have those below the code
 pub record Letters (out : List CharRange) (code : ℕ) (ranges : List CharRange) : Type 0 where

@@ -3,6 +3,7 @@
 
 mod algebra;
 pub mod char_set;
+mod codes;
 pub mod named;
 mod stretch;
 #[cfg(test)]

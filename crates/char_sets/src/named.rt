@@ -9,6 +9,7 @@ ghost use Rattle.char_sets.specs.Named.{is_word, in_named, has_number, has_categ
 
 use crate::algebra::{Keep, joined};
 use crate::char_set::{CharRange, CharSet};
+use crate::codes::{ASCII, ASCII_SYMBOLS, TAB, XDIGITS};
 use crate::stretch::close;
 use std::alloc::{AllocError, Global};
 use unicode::properties::{GeneralCategory, GeneralCategoryGroup};
@@ -81,71 +82,6 @@ const SPACE_SEPARATOR: u32 = 1 << 22;
 const CONTROL: u32 = 1 << 25;
 
 const GRAPH: u32 = 0x1FF_FFFF | 1 << 26 | 1 << 28;
-
-/// The codes below 128.
-const ASCII: [CharRange; 1] = [CharRange {
-    first: 0,
-    last: 127,
-}];
-
-/// The tab.
-const TAB: [CharRange; 1] = [CharRange { first: 9, last: 9 }];
-
-/// `0` to `9`, `A` to `F` and `a` to `f`.
-const XDIGITS: [CharRange; 3] = [
-    CharRange {
-        first: 48,
-        last: 57,
-    },
-    CharRange {
-        first: 65,
-        last: 70,
-    },
-    CharRange {
-        first: 97,
-        last: 102,
-    },
-];
-
-/// `$`, `+`, `<`, `=`, `>`, `^`, the grave accent, the bar and `~`.
-const ASCII_SYMBOLS: [CharRange; 9] = [
-    CharRange {
-        first: 36,
-        last: 36,
-    },
-    CharRange {
-        first: 43,
-        last: 43,
-    },
-    CharRange {
-        first: 60,
-        last: 60,
-    },
-    CharRange {
-        first: 61,
-        last: 61,
-    },
-    CharRange {
-        first: 62,
-        last: 62,
-    },
-    CharRange {
-        first: 94,
-        last: 94,
-    },
-    CharRange {
-        first: 96,
-        last: 96,
-    },
-    CharRange {
-        first: 124,
-        last: 124,
-    },
-    CharRange {
-        first: 126,
-        last: 126,
-    },
-];
 
 /// Whether the bit of the number is set.
 fn has(numbers: u32, number: u32) -> bool

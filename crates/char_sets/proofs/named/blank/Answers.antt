@@ -2,7 +2,7 @@ use Rattle.std.proofs.Common.{◌||◌, ◌==◌, ◌∷◌, [], ap, ap₂, refl
 use Rattle.unicode.specs.GeneralCategory.{general_category}
 use Rattle.char_sets.specs.Ranges.{in_set, rises}
 use Rattle.char_sets.proofs.Categories.{separator_numbers}
-use Rattle.char_sets.proofs.Joined.{or-false}
+use Rattle.std.proofs.Math.Bool.{or-false}
 use Rattle.char_sets.proofs.Sets.{IfOk-IsSetOf, in_set-codes}
 use Rattle.char_sets.proofs.named.blank.Goals as goal
 
