@@ -5,14 +5,14 @@ ghost use Rattle.ucd_category.specs.GeneralCategory.{general_category_number};
 ghost use Rattle.char_sets.specs.Ranges.{in_set, rises, IsSetOf};
 ghost use Rattle.unicode.specs.GeneralCategoryGroup.{in_group};
 ghost use Rattle.char_sets.specs.declared.named.NamedSet.TheVariants as NamedSet;
-ghost use Rattle.char_sets.specs.Named.{is_word, in_named, has_number, has_category};
+ghost use Rattle.char_sets.specs.Named.{is_word, is_ascii_symbol, in_named, has_number, has_category};
 
 use crate::algebra::{Keep, joined};
 use crate::char_set::{CharRange, CharSet};
 use crate::codes::{ASCII, ASCII_SYMBOLS, TAB, XDIGITS};
 use crate::stretch::close;
 use std::alloc::{AllocError, Global};
-use unicode::properties::{GeneralCategory, GeneralCategoryGroup};
+use unicode::properties::{GeneralCategory, GeneralCategoryGroup, is_white_space};
 
 /// The sets of characters that have names. The names of brackets are those of POSIX; which general categories of
 /// Unicode each has is this project's own.
@@ -123,6 +123,42 @@ fn of_codes(alloc: Global, ranges: &[CharRange]) -> Result<CharSet, AllocError>
     ensures { IfOk result (λ s. s ≡ ranges.now) }
 {
     Ok(CharSet::of_ranges(Vec::from_slice(alloc, ranges)?))
+}
+
+impl NamedSet {
+    /// Whether the character is in the set.
+    #[tactic(auto, unfolding(crate::specs::Named::is_word))]
+    pub fn has(self, c: char) -> bool
+        ensures { result ≡ in_named self c }
+    {
+        let number = GeneralCategory::for_char(c).number();
+        match self {
+            NamedSet::Digit => has(DIGIT, number),
+            NamedSet::Word => has(WORD, number),
+            NamedSet::Space => is_white_space(c),
+            NamedSet::Xdigit => matches!(c, '0'..='9' | 'A'..='F' | 'a'..='f'),
+            NamedSet::Alpha => has(ALPHA, number),
+            NamedSet::Alnum => has(ALNUM, number),
+            NamedSet::Upper => has(UPPER, number),
+            NamedSet::Lower => has(LOWER, number),
+            NamedSet::Blank => has(SPACE_SEPARATOR, number) | (c == '\t'),
+            NamedSet::Cntrl => has(CONTROL, number),
+            NamedSet::Punct => has(PUNCTUATION, number) | is_ascii_symbol(c),
+            NamedSet::Graph => has(GRAPH, number) & !is_white_space(c),
+            NamedSet::Print => (has(GRAPH, number) & !is_white_space(c))
+                | has(SPACE_SEPARATOR, number),
+            NamedSet::Ascii => c.is_ascii(),
+            NamedSet::Category(category) => number == category.number(),
+            NamedSet::Group(group) => has(numbers_of(group), number),
+        }
+    }
+}
+
+/// Whether the character is a sign of ASCII that is a symbol to Unicode and counts as punctuation here.
+fn is_ascii_symbol(c: char) -> bool
+    ensures { result ≡ is_ascii_symbol c }
+{
+    matches!(c, '$' | '+' | '<' | '=' | '>' | '^' | '`' | '|' | '~')
 }
 
 impl CharSet {

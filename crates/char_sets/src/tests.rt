@@ -118,11 +118,15 @@ fn named_sets_have_their_members(rt: HostRuntime) -> Result<(), Fail> {
         let set = CharSet::named(rt.alloc(), name)?;
         let others = set.complement(rt.alloc())?;
         assert!(rt;
-            inside.chars().all(|c| set.has(c) && !others.has(c)),
+            inside
+                .chars()
+                .all(|c| set.has(c) && !others.has(c) && name.has(c)),
             "{name:?}"
         );
         assert!(rt;
-            outside.chars().all(|c| !set.has(c) && others.has(c)),
+            outside
+                .chars()
+                .all(|c| !set.has(c) && others.has(c) && !name.has(c)),
             "not {name:?}"
         );
     }
