@@ -1,2 +1,5 @@
+pub mod Case
+pub mod Examples
+pub mod Keep
 pub mod Named
 pub mod Ranges
