@@ -35,8 +35,12 @@ abbrev pub is_no_miss : Ran → Bool
 is_no_miss (Miss left) = false
 is_no_miss _ = true
 
+-- the first of some pairs whose attempt isn't a miss
+abbrev pub first_of : List Pair → List ℕ → Flags → ℕ → Option Pair
+first_of pairs text flags budget = find (λ pair. is_no_miss (tried text flags budget pair)) pairs
+
 abbrev pub first_pair : List Tree → List ℕ → ℕ → Flags → ℕ → Option Pair
-first_pair trees text from flags budget = find (λ pair. is_no_miss (tried text flags budget pair)) (pairs trees text from)
+first_pair trees text from flags budget = first_of (pairs trees text from) text flags budget
 
 -- what the search answers, and the captures of the last hit behind it
 abbrev pub answer_by : Pair → Ran → Found

@@ -1,0 +1,97 @@
+ghost use Rattle.std.specs.Prelude.{◌≡◌, ◌<◌, ◌≤◌, ◌^◌, All, length, map, IfOk};
+ghost use Rattle.std.specs.Rc.{rc_value};
+ghost use Rattle.pattern_defs.specs.FirstMatch.{pairs_at, first_of, found_at, captures_at, first_match, captures_after};
+
+use crate::stub::{Work, attempt};
+use onig_parse::Pattern;
+use pattern_defs::{Flags, Found, Outcome};
+use std::alloc::{AllocError, Global};
+use std::marker::Model;
+use std::rc::Rc;
+
+/// Patterns that are searched for together. They count from 0.
+#[derive(Debug, Drop)]
+pub struct Scanner {
+    patterns: Vec<Rc<Pattern>>,
+}
+
+impl Model for Scanner {
+    ghost use Rattle.std.specs.Prelude.{List, length, map, ◌<◌, ◌^◌};
+    ghost use Rattle.std.specs.Rc.{rc_value};
+    ghost use Rattle.pattern_defs.specs.Patterns.{Tree};
+
+    ghost Value = { List Tree };
+
+    ghost view = { λ s. map rc_value s.patterns.items };
+
+    ghost invariant = { λ s. length s.patterns.items < 2 ^ 32 };
+}
+
+/// The first of the patterns that matches at this place.
+fn find_at(
+    patterns: &[Rc<Pattern>],
+    work: &mut Work,
+    text: &[char],
+    at: u32,
+    flags: Flags,
+) -> Found
+    requires few { length patterns.now < 2 ^ 32 }
+    requires short { length text.now < 2 ^ 31 }
+    requires inside { at ≤ length text.now }
+    requires room { All (λ tree. tree.groups ≤ work.old.room) (map rc_value patterns.now) }
+    ensures found { result ≡ found_at text.now flags work.old.budget
+        (first_of (pairs_at 0 (map rc_value patterns.now) at) text.now flags work.old.budget) }
+    ensures work { work.new ≡ record work.old { hit = captures_at text.now flags work.old.budget
+        (first_of (pairs_at 0 (map rc_value patterns.now) at) text.now flags work.old.budget) work.old.hit } }
+{
+    for (index, pattern) in patterns.iter().enumerate() {
+        match attempt(pattern, work, text, at, flags) {
+            Outcome::Hit => {
+                return Found::At {
+                    index: index as u32,
+                };
+            }
+            Outcome::Spent => {
+                return Found::Spent {
+                    index: index as u32,
+                    at,
+                };
+            }
+            Outcome::Miss => {}
+        }
+    }
+    Found::Nowhere
+}
+
+impl Scanner {
+    /// A scanner of these patterns, in this order. They are shared.
+    pub fn new(alloc: Global, patterns: &[Rc<Pattern>]) -> Result<Scanner, AllocError>
+        requires { length patterns.now < 2 ^ 32 }
+        ensures { IfOk result (λ s. s ≡ map rc_value patterns.now) }
+    {
+        let mut shared = Vec::with_capacity(alloc, patterns.len())?;
+        for pattern in patterns {
+            shared.push(pattern.clone()?)?;
+        }
+        Ok(Scanner { patterns: shared })
+    }
+
+    /// The first match from a place on: places are tried in order, and at each the patterns in order. What the
+    /// groups took, `work` tells. Places count characters. The order is that of Oniguruma's scanner in vscode-textmate.
+    pub fn find(&self, work: &mut Work, text: &[char], from: u32, flags: Flags) -> Found
+        requires short { length text.now < 2 ^ 31 }
+        requires inside { from ≤ length text.now }
+        requires room { All (λ tree. tree.groups ≤ work.old.room) self.now }
+        ensures found { result ≡ first_match self.now text.now from flags work.old.budget }
+        ensures work { work.new ≡ record work.old { hit = captures_after self.now text.now from flags work.old.budget work.old.hit } }
+    {
+        let end = text.len() as u32 + 1;
+        for at in from..end {
+            match find_at(&self.patterns, work, text, at, flags) {
+                Found::Nowhere => {}
+                found => return found,
+            }
+        }
+        Found::Nowhere
+    }
+}
