@@ -33,30 +33,18 @@ found_at-hit p rest text flags budget whole e h =
     let first : first_of (p ∷ rest) text flags budget ≡ Some p = rw (hit_decides (tried text flags budget p) h) refl in
     rw (sym e, first) (hit_answers p (tried text flags budget p) h)
 
--- the pattern at a place in a list, seen by a view
+-- the pattern at a place in a list
 
-view_at : {X : Type 0} (view : X → Tree) (patterns : List X) (i : ℕ) (x : X) → i < length patterns → get_or (map view patterns) i (view x) ≡ view (get_or patterns i x)
-view_at view [] i x h = absurd (omega arith)
-view_at view (p ∷ ps) zero x h = refl
-view_at view (p ∷ ps) (suc i) x h = view_at view ps i x (omega arith)
-
-pub room_at : {X : Type 0} (view : X → Tree) (patterns : List X) (i room : ℕ) (x : X) (tree : Tree) → All (λ t. t.groups ≤ room) (map view patterns) → i < length patterns → x ≡ get_or patterns i x → tree ≡ view x → tree.groups ≤ room
-room_at view patterns i room x tree all h read is =
-    let shown : tree ≡ get_or (map view patterns) i (view x) = is ∙ ap view read ∙ sym (view_at view patterns i x h) in
-    let P : Tree → Type 0 = λ t. t.groups ≤ room in
-    subst P (sym shown) (all i (view x) (rw (length-map patterns view) h))
-
-pub hit_at : {X : Type 0} (view : X → Tree) (patterns : List X) (i at : ℕ) (x : X) (tree : Tree) (text : List ℕ) (flags : Flags) (budget total : ℕ) (all : List Pair)
-    → i < length patterns → x ≡ get_or patterns i x → tree ≡ view x → budget ≡ total
-    → first_of (pairs_at i (map view (drop i patterns)) at) text flags budget ≡ first_of all text flags budget
+pub hit_at : (trees : List Tree) (i at : ℕ) (tree : Tree) (text : List ℕ) (flags : Flags) (budget total : ℕ) (all : List Pair)
+    → i < length trees → tree ≡ get_or trees i tree → budget ≡ total
+    → first_of (pairs_at i (drop i trees) at) text flags budget ≡ first_of all text flags budget
     → outcomes.Hit ≡ outcome_of (attempt tree text at flags budget)
     → found.At i ≡ found_at text flags total (first_of all text flags total)
-hit_at {X = X} view patterns i at x tree text flags budget total all h read is same missed hit =
-    let split : drop i patterns ≡ x ∷ drop (suc i) patterns = drop-cons patterns i x h ∙ ap (λ y. y ∷ drop (suc i) patterns) (sym read) in
-    let Missed : List X → Type 0 = λ zs. first_of (pairs_at i (map view zs) at) text flags budget ≡ first_of all text flags budget in
-    let Hits : Tree → Type 0 = λ t. outcomes.Hit ≡ outcome_of (attempt t text at flags budget) in
+hit_at trees i at tree text flags budget total all h read same missed hit =
+    let split : drop i trees ≡ tree ∷ drop (suc i) trees = drop-cons trees i tree h ∙ ap (λ y. y ∷ drop (suc i) trees) (sym read) in
+    let Missed : List Tree → Type 0 = λ ts. first_of (pairs_at i ts at) text flags budget ≡ first_of all text flags budget in
     let Answers : ℕ → Type 0 = λ b. found.At i ≡ found_at text flags b (first_of all text flags b) in
-    subst Answers same (found_at-hit (record { place = at; index = i; tree = view x }) _ text flags budget _ (subst Missed split missed) (subst Hits is hit))
+    subst Answers same (found_at-hit (record { place = at; index = i; tree = tree }) _ text flags budget _ (subst Missed split missed) hit)
 
 -- places, one after the other
 

@@ -1,6 +1,8 @@
 //! Searches over several patterns at once.
 #![tactic(auto)]
 
+mod entry;
+mod front;
 pub mod scanner;
 mod stub;
 

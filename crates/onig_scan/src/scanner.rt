@@ -2,7 +2,8 @@ ghost use Rattle.std.specs.Prelude.{◌≡◌, ◌<◌, ◌≤◌, ◌^◌, All,
 ghost use Rattle.std.specs.Rc.{rc_value};
 ghost use Rattle.pattern_defs.specs.FirstMatch.{pairs_at, first_of, found_at, captures_at, first_match, captures_after};
 
-use crate::stub::{Work, attempt};
+use crate::entry::Entry;
+use crate::stub::Work;
 use onig_parse::Pattern;
 use pattern_defs::{Flags, Found, Outcome};
 use std::alloc::{AllocError, Global};
@@ -12,40 +13,39 @@ use std::rc::Rc;
 /// Patterns that are searched for together. They count from 0.
 #[derive(Debug, Drop)]
 pub struct Scanner {
-    patterns: Vec<Rc<Pattern>>,
+    entries: Vec<Entry>,
 }
 
 impl Model for Scanner {
-    ghost use Rattle.std.specs.Prelude.{List, length, map, ◌<◌, ◌^◌};
-    ghost use Rattle.std.specs.Rc.{rc_value};
+    ghost use Rattle.std.specs.Prelude.{List, length, ◌<◌, ◌^◌};
     ghost use Rattle.pattern_defs.specs.Patterns.{Tree};
 
     ghost Value = { List Tree };
 
-    ghost view = { λ s. map rc_value s.patterns.items };
+    ghost view = { λ s. s.entries.items };
 
-    ghost invariant = { λ s. length s.patterns.items < 2 ^ 32 };
+    ghost invariant = { λ s. length s.entries.items < 2 ^ 32 };
 }
 
 /// The first of the patterns that matches at this place.
 fn find_at(
-    patterns: &[Rc<Pattern>],
+    entries: &[Entry],
     work: &mut Work,
     text: &[char],
     at: u32,
     flags: Flags,
 ) -> Found
-    requires few { length patterns.now < 2 ^ 32 }
+    requires few { length entries.now < 2 ^ 32 }
     requires short { length text.now < 2 ^ 31 }
     requires inside { at ≤ length text.now }
-    requires room { All (λ tree. tree.groups ≤ work.old.room) (map rc_value patterns.now) }
+    requires room { All (λ tree. tree.groups ≤ work.old.room) entries.now }
     ensures found { result ≡ found_at text.now flags work.old.budget
-        (first_of (pairs_at 0 (map rc_value patterns.now) at) text.now flags work.old.budget) }
+        (first_of (pairs_at 0 entries.now at) text.now flags work.old.budget) }
     ensures work { work.new ≡ record work.old { hit = captures_at text.now flags work.old.budget
-        (first_of (pairs_at 0 (map rc_value patterns.now) at) text.now flags work.old.budget) work.old.hit } }
+        (first_of (pairs_at 0 entries.now at) text.now flags work.old.budget) work.old.hit } }
 {
-    for (index, pattern) in patterns.iter().enumerate() {
-        match attempt(pattern, work, text, at, flags) {
+    for (index, entry) in entries.iter().enumerate() {
+        match entry.attempt(work, text, at, flags) {
             Outcome::Hit => {
                 return Found::At {
                     index: index as u32,
@@ -69,11 +69,11 @@ impl Scanner {
         requires { length patterns.now < 2 ^ 32 }
         ensures { IfOk result (λ s. s ≡ map rc_value patterns.now) }
     {
-        let mut shared = Vec::with_capacity(alloc, patterns.len())?;
+        let mut entries = Vec::with_capacity(alloc, patterns.len())?;
         for pattern in patterns {
-            shared.push(pattern.clone()?)?;
+            entries.push(Entry::of(alloc, pattern)?)?;
         }
-        Ok(Scanner { patterns: shared })
+        Ok(Scanner { entries })
     }
 
     /// The first match from a place on: places are tried in order, and at each the patterns in order. What the
@@ -87,7 +87,7 @@ impl Scanner {
     {
         let end = text.len() as u32 + 1;
         for at in from..end {
-            match find_at(&self.patterns, work, text, at, flags) {
+            match find_at(&self.entries, work, text, at, flags) {
                 Found::Nowhere => {}
                 found => return found,
             }

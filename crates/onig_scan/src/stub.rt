@@ -20,6 +20,14 @@ impl Model for Work {
     ghost view = { λ w. record { budget = w.budget; room = w.room; hit = [] } };
 }
 
+impl Work {
+    pub fn budget(&self) -> u32
+        ensures { result ≡ self.now.budget }
+    {
+        self.budget
+    }
+}
+
 pub fn attempt(pattern: &Pattern, work: &mut Work, text: &[char], at: u32, flags: Flags) -> Outcome
     requires short { length text.now < 2 ^ 31 }
     requires inside { at ≤ length text.now }

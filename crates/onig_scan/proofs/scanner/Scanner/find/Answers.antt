@@ -10,7 +10,7 @@ use Rattle.onig_scan.proofs.scanner.Scanner.find.Goals as goal
 pub returns-in_default : goal.returns-in_default
 returns-in_default c =
     let budget : ℕ = c.loop-at.work.budget in
-    let seen : map rc_value c.deref.result.now ≡ c.args.self.now = ap (map rc_value) c.deref.ensures.value ∙ c.self.view_is in
+    let seen : c.deref.result.now ≡ c.args.self.now = c.deref.ensures.value ∙ c.self.view_is in
     let here : List Tree → Option Pair = λ trees. first_of (pairs_at 0 trees c.loop-at.at) c.args.text.now c.args.flags budget in
     let Found : List Tree → Type 0 = λ trees. c.find_at.result ≡ found_at c.args.text.now c.args.flags budget (here trees) in
     let Left : List Tree → Type 0 = λ trees. c.find_at.new.work ≡ record c.loop-at.work { hit = captures_at c.args.text.now c.args.flags budget (here trees) c.loop-at.work.hit } in
@@ -27,11 +27,11 @@ returns-in_default c =
 pub loop-at-preserved : goal.loop-at-preserved
 loop-at-preserved c =
     let budget : ℕ = c.loop-at.work.budget in
-    let seen : map rc_value c.deref.result.now ≡ c.args.self.now = ap (map rc_value) c.deref.ensures.value ∙ c.self.view_is in
+    let seen : c.deref.result.now ≡ c.args.self.now = c.deref.ensures.value ∙ c.self.view_is in
     let here : List Tree → Option Pair = λ trees. first_of (pairs_at 0 trees c.loop-at.at) c.args.text.now c.args.flags budget in
     let Found : List Tree → Type 0 = λ trees. Nowhere ≡ found_at c.args.text.now c.args.flags budget (here trees) in
     let Left : Option Pair → Type 0 = λ o. c.find_at.new.work ≡ record c.loop-at.work { hit = captures_at c.args.text.now c.args.flags budget o c.loop-at.work.hit } in
-    let none : here (map rc_value c.deref.result.now) ≡ None = first_of-nowhere (pairs_at 0 (map rc_value c.deref.result.now) c.loop-at.at) c.args.text.now c.args.flags budget c.in-Nowhere.ensures.found in
+    let none : here c.deref.result.now ≡ None = first_of-nowhere (pairs_at 0 c.deref.result.now c.loop-at.at) c.args.text.now c.args.flags budget c.in-Nowhere.ensures.found in
     let same : c.find_at.new.work ≡ c.loop-at.work = subst Left none c.in-Nowhere.ensures.work in
     record {
       missed = rw same (first_pair-missed c.args.self.now c.args.text.now c.args.from c.loop-at.at c.args.flags budget (omega arith) c.loop-at.invariant.missed (subst Found seen c.in-Nowhere.ensures.found));
