@@ -113,8 +113,10 @@ IsFront-Choice lists ids nodes ranges cost are =
 pub IsFront-Repeat : (lists : NodeLists) (body : ListId) (least : ℕ) (most : Option ℕ) (greedy : Bool) (nodes : List PatNode) (ranges : List CharRange) (first others : ℕ)
     → IsFront lists (nodes_of lists body) ranges first → IsFront lists nodes ranges others → IsFront lists (Repeat body least most greedy ∷ nodes) ranges (first + others + 1)
 IsFront-Repeat lists body least most greedy nodes ranges first others is after =
-    record { front = λ s rest same. from_act s (Node (Repeat body least most greedy)) (map Node nodes ++ rest) ranges (first + others) (λ fuel at captures left without enough fits. tries-misses s _ ranges (first + others) fuel at captures left
-        (by_case s (before s.lists body (Again body least most greedy 1 at ∷ (map Node nodes ++ rest))) (map Node nodes ++ rest) (body_front lists body ranges first is s _ same) (after.front s rest same) (nat_lt 0 least) (is_greatest most 0) greedy) without enough fits) }
+    record {
+      front = λ s rest same. from_act s (Node (Repeat body least most greedy)) (map Node nodes ++ rest) ranges (first + others) (λ fuel at captures left without enough fits. tries-misses s _ ranges (first + others) fuel at captures left
+          (by_case s (before s.lists body (Again body least most greedy 1 at ∷ (map Node nodes ++ rest))) (map Node nodes ++ rest) (body_front lists body ranges first is s _ same) (after.front s rest same) (nat_lt 0 least) (is_greatest most 0) greedy) without enough fits);
+    }
   where
     by_case : (s : Subject) (more rest : List Todo) → IsFrontOf s more ranges first → IsFrontOf s rest ranges others → (below greatest greedy : Bool) → FrontsOf s (repeat_ways false below greatest greedy more rest) ranges (first + others)
     by_case s more rest one other true greatest greedy = (first, 0, omega arith, one, tt)
@@ -126,8 +128,10 @@ IsFront-Repeat lists body least most greedy nodes ranges first others is after =
 pub IsFront-some : (lists : NodeLists) (body : ListId) (least : ℕ) (most : Option ℕ) (greedy : Bool) (nodes : List PatNode) (ranges : List CharRange) (cost : ℕ)
     → 0 < least → IsFront lists (nodes_of lists body) ranges cost → IsFront lists (Repeat body least most greedy ∷ nodes) ranges (cost + 1)
 IsFront-some lists body least most greedy nodes ranges cost some is =
-    record { front = λ s rest same. from_act s (Node (Repeat body least most greedy)) (map Node nodes ++ rest) ranges cost (λ fuel at captures left without enough fits. tries-misses s _ ranges cost fuel at captures left
-        (by_case s (before s.lists body (Again body least most greedy 1 at ∷ (map Node nodes ++ rest))) (map Node nodes ++ rest) (body_front lists body ranges cost is s _ same) (nat_lt 0 least) (lt-ltb 0 least some) (is_greatest most 0) greedy) without enough fits) }
+    record {
+      front = λ s rest same. from_act s (Node (Repeat body least most greedy)) (map Node nodes ++ rest) ranges cost (λ fuel at captures left without enough fits. tries-misses s _ ranges cost fuel at captures left
+          (by_case s (before s.lists body (Again body least most greedy 1 at ∷ (map Node nodes ++ rest))) (map Node nodes ++ rest) (body_front lists body ranges cost is s _ same) (nat_lt 0 least) (lt-ltb 0 least some) (is_greatest most 0) greedy) without enough fits);
+    }
   where
     by_case : (s : Subject) (more rest : List Todo) → IsFrontOf s more ranges cost → (below : Bool) → below ≡ true → (greatest greedy : Bool) → FrontsOf s (repeat_ways false below greatest greedy more rest) ranges cost
     by_case s more rest one true is greatest greedy = (cost, 0, omega arith, one, tt)
@@ -141,6 +145,7 @@ IsWithout-within small large text at within without = record { scalar = without.
     by_test : (c : ℕ) (b : Bool) → in_set small c ≡ b → c < 1_114_112 → in_set large c ≡ false → b ≡ false
     by_test c false is scalar none = refl
     by_test c true is scalar none = let there : in_set large c ≡ true = within c scalar is in cc
+
     by_char : (o : Option ℕ) → IfSome o (λ c. c < 1_114_112) → is_char (in_set large) o ≡ false → is_char (in_set small) o ≡ false
     by_char None scalar none = refl
     by_char (Some c) scalar none = by_test c (in_set small c) refl scalar none

@@ -81,7 +81,7 @@ pub first_pair-step : (trees : List Tree) (text : List ℕ) (at : ℕ) (flags : 
 first_pair-step trees text at flags budget h =
     let count : length text + 1 - at ≡ suc (length text + 1 - (at + 1)) = omega arith in
     let split : pairs trees text at ≡ pairs_at 0 trees at ++ pairs trees text (at + 1) =
-        ap (λ n. flat_map (pairs_at 0 trees) (places at n)) count ∙ flat_map-cons (pairs_at 0 trees) at (places (at + 1) (length text + 1 - (at + 1))) in
+    ap (λ n. flat_map (pairs_at 0 trees) (places at n)) count ∙ flat_map-cons (pairs_at 0 trees) at (places (at + 1) (length text + 1 - (at + 1))) in
     ap (λ all. first_of all text flags budget) split ∙ find-append (λ pair. is_no_miss (tried text flags budget pair)) (pairs_at 0 trees at) (pairs trees text (at + 1))
 
 -- where a place decides, the search is over

@@ -8,6 +8,7 @@ use std::alloc::{AllocError, Global};
 
 /// How many nodes deep a front is looked for, and over how many alternatives.
 pub(crate) const MOST_DEEP: u32 = 32;
+
 const MOST_ARMS: usize = 64;
 
 /// Characters of which one stands wherever a pattern matches, and how many visits an attempt takes at most

@@ -28,21 +28,17 @@ impl Model for Scanner {
 }
 
 /// The first of the patterns that matches at this place.
-fn find_at(
-    entries: &[Entry],
-    work: &mut Work,
-    text: &[char],
-    at: u32,
-    flags: Flags,
-) -> Found
+fn find_at(entries: &[Entry], work: &mut Work, text: &[char], at: u32, flags: Flags) -> Found
     requires few { length entries.now < 2 ^ 32 }
     requires short { length text.now < 2 ^ 31 }
     requires inside { at ≤ length text.now }
     requires room { All (λ tree. tree.groups ≤ work.old.room) entries.now }
     ensures found { result ≡ found_at text.now flags work.old.budget
         (first_of (pairs_at 0 entries.now at) text.now flags work.old.budget) }
-    ensures work { work.new ≡ record work.old { hit = captures_at text.now flags work.old.budget
-        (first_of (pairs_at 0 entries.now at) text.now flags work.old.budget) work.old.hit } }
+    ensures work { work.new ≡ record work.old {
+      hit = captures_at text.now flags work.old.budget
+          (first_of (pairs_at 0 entries.now at) text.now flags work.old.budget) work.old.hit;
+    } }
 {
     for (index, entry) in entries.iter().enumerate() {
         match entry.attempt(work, text, at, flags) {

@@ -1,8 +1,4 @@
-use Rattle.std.proofs.Common.{◌≡◌, ◌<◌, ◌≤◌, ◌+◌, ◌∷◌, length, ap, sym, subst, ◌∙◌, arith}
 use Rattle.std.proofs.lemmas.List.{take_more}
-use Rattle.pattern_defs.specs.Patterns.{nodes_of}
-use Rattle.onig_scan.specs.declared.front.Front.{Front}
-use Rattle.onig_scan.specs.Fronts.{IsFront, AreFronts, IsFrontOfRepeat, IsWithin}
 use Rattle.onig_scan.proofs.FrontLaws.{lifted, id_below, IsFront-One, IsFront-At, IsFront-Group, IsFront-Atomic, IsFront-Choice, IsFront-Repeat, IsFront-some, IsFront-within, AreFronts-within, AreFronts-push}
 use Rattle.onig_scan.proofs.front.+fronts.Goals as goal
 

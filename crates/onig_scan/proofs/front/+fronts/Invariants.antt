@@ -1,4 +1,4 @@
-use Rattle.std.proofs.Common.{◌≡◌, ◌<◌, ◌≤◌, ◌+◌, ◌*◌, ℕ, take}
+use Rattle.std.proofs.Common.{◌+◌, ◌*◌, take}
 use Rattle.onig_scan.specs.Fronts.{AreFronts}
 use Rattle.onig_scan.proofs.front.+fronts.Given as goal
 

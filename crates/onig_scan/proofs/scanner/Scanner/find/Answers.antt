@@ -15,8 +15,8 @@ returns-in_default c =
     let Found : List Tree → Type 0 = λ trees. c.find_at.result ≡ found_at c.args.text.now c.args.flags budget (here trees) in
     let Left : List Tree → Type 0 = λ trees. c.find_at.new.work ≡ record c.loop-at.work { hit = captures_at c.args.text.now c.args.flags budget (here trees) c.loop-at.work.hit } in
     let over : here c.args.self.now ≡ first_pair c.args.self.now c.args.text.now c.args.from c.args.flags budget =
-        first_pair-decided c.args.self.now c.args.text.now c.args.from c.loop-at.at c.args.flags budget c.find_at.result (omega arith)
-        c.loop-at.invariant.missed (subst Found seen c.find_at.ensures.found) c.in_default.not-Nowhere in
+    first_pair-decided c.args.self.now c.args.text.now c.args.from c.loop-at.at c.args.flags budget c.find_at.result (omega arith)
+    c.loop-at.invariant.missed (subst Found seen c.find_at.ensures.found) c.in_default.not-Nowhere in
     let AllFound : Option Pair → Type 0 = λ o. c.find_at.result ≡ found_at c.args.text.now c.args.flags budget o in
     let AllLeft : Option Pair → Type 0 = λ o. c.find_at.new.work ≡ record c.loop-at.work { hit = captures_at c.args.text.now c.args.flags budget o c.loop-at.work.hit } in
     record {
