@@ -1,0 +1,107 @@
+-- Searches, pair by pair and place by place.
+use Rattle.std.proofs.Common.{◌≡◌, ℕ, zero, suc, ◌+◌, ◌-◌, ◌<◌, ◌≤◌, Bool, true, false, cond, List, [], ◌∷◌, ◌++◌, length, map, drop, get_or, All, Option, Some, None, refl, sym, ap, ◌∙◌, subst, arith}
+use Rattle.std.specs.Prelude.{find}
+use Rattle.std.specs.List.{flat_map}
+use Rattle.std.specs.Option.{option_or}
+use Rattle.std.proofs.lemmas.List.Folds.{find-append}
+use Rattle.std.proofs.lemmas.List.{length-map}
+use Rattle.std.proofs.Math.Seq.{drop-cons}
+use Rattle.std.proofs.lemmas.List.Concat.{flat_map-cons}
+use Rattle.pattern_defs.specs.declared.outcomes.Flags.{Flags}
+use Rattle.pattern_defs.specs.declared.outcomes.Found.{Found}
+use Rattle.pattern_defs.specs.declared.outcomes.Found.TheVariants as found
+use Rattle.pattern_defs.specs.declared.outcomes.Outcome.{Outcome}
+use Rattle.pattern_defs.specs.declared.outcomes.Outcome.TheVariants as outcomes
+use Rattle.pattern_defs.specs.Patterns.{Tree}
+use Rattle.pattern_defs.specs.Attempt.{Ran, Hit, Miss, Spent, Captures, outcome_of, hit_after, attempt}
+use Rattle.pattern_defs.specs.FirstMatch.{Pair, pairs_at, places, pairs, tried, is_no_miss, first_of, first_pair, answer_by, found_at, captures_by, captures_at}
+
+-- an attempt that hits decides
+
+hit_decides : (r : Ran) → outcomes.Hit ≡ outcome_of r → is_no_miss r ≡ true
+hit_decides (Hit at captures left) h = refl
+hit_decides (Miss left) h = absurd (cc)
+hit_decides Spent h = refl
+
+hit_answers : (p : Pair) (r : Ran) → outcomes.Hit ≡ outcome_of r → found.At p.index ≡ answer_by p r
+hit_answers p (Hit at captures left) h = refl
+hit_answers p (Miss left) h = absurd (cc)
+hit_answers p Spent h = absurd (cc)
+
+pub found_at-hit : (p : Pair) (rest : List Pair) (text : List ℕ) (flags : Flags) (budget : ℕ) (whole : Option Pair) → first_of (p ∷ rest) text flags budget ≡ whole → outcomes.Hit ≡ outcome_of (tried text flags budget p) → found.At p.index ≡ found_at text flags budget whole
+found_at-hit p rest text flags budget whole e h =
+    let first : first_of (p ∷ rest) text flags budget ≡ Some p = rw (hit_decides (tried text flags budget p) h) refl in
+    rw (sym e, first) (hit_answers p (tried text flags budget p) h)
+
+-- the pattern at a place in a list
+
+pub hit_at : (trees : List Tree) (i at : ℕ) (tree : Tree) (text : List ℕ) (flags : Flags) (budget total : ℕ) (all : List Pair)
+    → i < length trees → tree ≡ get_or trees i tree → budget ≡ total
+    → first_of (pairs_at i (drop i trees) at) text flags budget ≡ first_of all text flags budget
+    → outcomes.Hit ≡ outcome_of (attempt tree text at flags budget)
+    → found.At i ≡ found_at text flags total (first_of all text flags total)
+hit_at trees i at tree text flags budget total all h read same missed hit =
+    let split : drop i trees ≡ tree ∷ drop (suc i) trees = drop-cons trees i tree h ∙ ap (λ y. y ∷ drop (suc i) trees) (sym read) in
+    let Missed : List Tree → Type 0 = λ ts. first_of (pairs_at i ts at) text flags budget ≡ first_of all text flags budget in
+    let Answers : ℕ → Type 0 = λ b. found.At i ≡ found_at text flags b (first_of all text flags b) in
+    subst Answers same (found_at-hit (record { place = at; index = i; tree = tree }) _ text flags budget _ (subst Missed split missed) hit)
+
+-- places, one after the other
+
+some_answers : (r : Ran) (p : Pair) → is_no_miss r ≡ true → found.Nowhere ≡ answer_by p r → ⊥
+some_answers (Hit at captures left) p is e = cc
+some_answers (Miss left) p is e = cc
+some_answers Spent p is e = cc
+
+find_passes : {X : Type 0} (p : X → Bool) (xs : List X) (x : X) → find p xs ≡ Some x → p x ≡ true
+find_passes p [] x e = absurd (cc)
+find_passes {X = X} p (y ∷ ys) x e = by_test (p y) refl (find_passes p ys x)
+  where
+    by_test : (b : Bool) → p y ≡ b → (find p ys ≡ Some x → p x ≡ true) → p x ≡ true
+    by_test true t later =
+        let first : find p (y ∷ ys) ≡ Some y = rw t refl in
+        let same : y ≡ x = cc in
+        let P : X → Type 0 = λ z. p z ≡ true in
+        subst P same t
+    by_test false t later =
+        let rest : find p (y ∷ ys) ≡ find p ys = rw t refl in
+        later (sym rest ∙ e)
+
+-- nothing is found at a place only where each attempt there is a miss
+pub first_of-nowhere : (all : List Pair) (text : List ℕ) (flags : Flags) (budget : ℕ) → found.Nowhere ≡ found_at text flags budget (first_of all text flags budget) → first_of all text flags budget ≡ None
+first_of-nowhere all text flags budget e = by_first (first_of all text flags budget) refl e
+  where
+    by_first : (o : Option Pair) → first_of all text flags budget ≡ o → found.Nowhere ≡ found_at text flags budget o → o ≡ None
+    by_first None is e = refl
+    by_first (Some p) is e = absurd (some_answers (tried text flags budget p) p (find_passes _ all p is) e)
+
+-- the places from one on are that one and those behind it
+pub first_pair-step : (trees : List Tree) (text : List ℕ) (at : ℕ) (flags : Flags) (budget : ℕ) → at ≤ length text
+    → first_pair trees text at flags budget ≡ option_or (first_of (pairs_at 0 trees at) text flags budget) (first_pair trees text (at + 1) flags budget)
+first_pair-step trees text at flags budget h =
+    let count : length text + 1 - at ≡ suc (length text + 1 - (at + 1)) = omega arith in
+    let split : pairs trees text at ≡ pairs_at 0 trees at ++ pairs trees text (at + 1) =
+    ap (λ n. flat_map (pairs_at 0 trees) (places at n)) count ∙ flat_map-cons (pairs_at 0 trees) at (places (at + 1) (length text + 1 - (at + 1))) in
+    ap (λ all. first_of all text flags budget) split ∙ find-append (λ pair. is_no_miss (tried text flags budget pair)) (pairs_at 0 trees at) (pairs trees text (at + 1))
+
+-- where a place decides, the search is over
+pub first_pair-decided : (trees : List Tree) (text : List ℕ) (from at : ℕ) (flags : Flags) (budget : ℕ) (result : Found) → at ≤ length text
+    → first_pair trees text at flags budget ≡ first_pair trees text from flags budget
+    → result ≡ found_at text flags budget (first_of (pairs_at 0 trees at) text flags budget)
+    → (result ≡ found.Nowhere → ⊥)
+    → first_of (pairs_at 0 trees at) text flags budget ≡ first_pair trees text from flags budget
+first_pair-decided trees text from at flags budget result h missed is decided =
+    by_first (first_of (pairs_at 0 trees at) text flags budget) refl
+  where
+    by_first : (o : Option Pair) → first_of (pairs_at 0 trees at) text flags budget ≡ o → first_of (pairs_at 0 trees at) text flags budget ≡ first_pair trees text from flags budget
+    by_first None e = absurd (decided (is ∙ ap (found_at text flags budget) e))
+    by_first (Some p) e = e ∙ sym (sym missed ∙ first_pair-step trees text at flags budget h ∙ ap (λ o. option_or o (first_pair trees text (at + 1) flags budget)) e)
+
+-- where it doesn't, the search goes on behind it
+pub first_pair-missed : (trees : List Tree) (text : List ℕ) (from at : ℕ) (flags : Flags) (budget : ℕ) → at ≤ length text
+    → first_pair trees text at flags budget ≡ first_pair trees text from flags budget
+    → found.Nowhere ≡ found_at text flags budget (first_of (pairs_at 0 trees at) text flags budget)
+    → first_pair trees text (at + 1) flags budget ≡ first_pair trees text from flags budget
+first_pair-missed trees text from at flags budget h missed is =
+    let none : first_of (pairs_at 0 trees at) text flags budget ≡ None = first_of-nowhere (pairs_at 0 trees at) text flags budget is in
+    sym (sym missed ∙ first_pair-step trees text at flags budget h ∙ ap (λ o. option_or o (first_pair trees text (at + 1) flags budget)) none)

@@ -1,0 +1,57 @@
+ghost use Rattle.std.specs.Prelude.{◌≡◌, ◌<◌, ◌≤◌, ◌^◌, length, IfOk};
+ghost use Rattle.std.specs.Rc.{rc_value};
+ghost use Rattle.pattern_defs.specs.Attempt.{outcome_of, hit_after, attempt as attempted};
+
+use crate::front::{Front, MOST_DEEP, front_of};
+use crate::stub::{Work, attempt};
+use onig_parse::Pattern;
+use pattern_defs::{Flags, Outcome};
+use std::alloc::{AllocError, Global};
+use std::marker::Model;
+use std::rc::Rc;
+
+/// A pattern of a scanner, and the characters of which it needs one where it matches, where these are known.
+#[derive(Debug, Drop)]
+pub(crate) struct Entry {
+    pattern: Rc<Pattern>,
+    front: Option<Front>,
+}
+
+impl Model for Entry {
+    ghost use Rattle.std.specs.Rc.{rc_value};
+    ghost use Rattle.pattern_defs.specs.Patterns.{Tree};
+
+    ghost Value = { Tree };
+
+    ghost use Rattle.onig_scan.specs.Entries.{HasFront};
+
+    ghost view = { λ e. rc_value e.pattern };
+
+    ghost invariant = { λ e. HasFront (rc_value e.pattern) e.front };
+}
+
+impl Entry {
+    pub(crate) fn of(alloc: Global, pattern: &Rc<Pattern>) -> Result<Entry, AllocError>
+        ensures { IfOk result (λ e. e ≡ rc_value pattern.now) }
+    {
+        let front = front_of(alloc, pattern, pattern.list(pattern.top()), MOST_DEEP)?;
+        let pattern = pattern.clone()?;
+        Ok(Entry { pattern, front })
+    }
+
+    /// An attempt of the pattern, which is spared where it would miss for want of a character.
+    pub(crate) fn attempt(&self, work: &mut Work, text: &[char], at: u32, flags: Flags) -> Outcome
+        requires short { length text.now < 2 ^ 31 }
+        requires inside { at ≤ length text.now }
+        requires room { self.now.groups ≤ work.old.room }
+        ensures outcome { result ≡ outcome_of (attempted self.now text.now at flags work.old.budget) }
+        ensures work { work.new ≡ record work.old { hit = hit_after (attempted self.now text.now at flags work.old.budget) work.old.hit } }
+    {
+        if let Some(front) = &self.front {
+            if front.misses_at(text, at, work.budget()) {
+                return Outcome::Miss;
+            }
+        }
+        attempt(&self.pattern, work, text, at, flags)
+    }
+}

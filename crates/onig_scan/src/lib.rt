@@ -1,0 +1,10 @@
+//! Searches over several patterns at once.
+#![tactic(auto)]
+
+mod entry;
+mod front;
+pub mod scanner;
+mod stub;
+
+pub use pattern_defs::{Flags, Found, Outcome, Place};
+pub use scanner::Scanner;

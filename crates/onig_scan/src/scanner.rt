@@ -1,0 +1,93 @@
+ghost use Rattle.std.specs.Prelude.{◌≡◌, ◌<◌, ◌≤◌, ◌^◌, All, length, map, IfOk};
+ghost use Rattle.std.specs.Rc.{rc_value};
+ghost use Rattle.pattern_defs.specs.FirstMatch.{pairs_at, first_of, found_at, captures_at, first_match, captures_after};
+
+use crate::entry::Entry;
+use crate::stub::Work;
+use onig_parse::Pattern;
+use pattern_defs::{Flags, Found, Outcome};
+use std::alloc::{AllocError, Global};
+use std::marker::Model;
+use std::rc::Rc;
+
+/// Patterns that are searched for together. They count from 0.
+#[derive(Debug, Drop)]
+pub struct Scanner {
+    entries: Vec<Entry>,
+}
+
+impl Model for Scanner {
+    ghost use Rattle.std.specs.Prelude.{List, length, ◌<◌, ◌^◌};
+    ghost use Rattle.pattern_defs.specs.Patterns.{Tree};
+
+    ghost Value = { List Tree };
+
+    ghost view = { λ s. s.entries.items };
+
+    ghost invariant = { λ s. length s.entries.items < 2 ^ 32 };
+}
+
+/// The first of the patterns that matches at this place.
+fn find_at(entries: &[Entry], work: &mut Work, text: &[char], at: u32, flags: Flags) -> Found
+    requires few { length entries.now < 2 ^ 32 }
+    requires short { length text.now < 2 ^ 31 }
+    requires inside { at ≤ length text.now }
+    requires room { All (λ tree. tree.groups ≤ work.old.room) entries.now }
+    ensures found { result ≡ found_at text.now flags work.old.budget
+        (first_of (pairs_at 0 entries.now at) text.now flags work.old.budget) }
+    ensures work { work.new ≡ record work.old {
+      hit = captures_at text.now flags work.old.budget
+          (first_of (pairs_at 0 entries.now at) text.now flags work.old.budget) work.old.hit;
+    } }
+{
+    for (index, entry) in entries.iter().enumerate() {
+        match entry.attempt(work, text, at, flags) {
+            Outcome::Hit => {
+                return Found::At {
+                    index: index as u32,
+                };
+            }
+            Outcome::Spent => {
+                return Found::Spent {
+                    index: index as u32,
+                    at,
+                };
+            }
+            Outcome::Miss => {}
+        }
+    }
+    Found::Nowhere
+}
+
+impl Scanner {
+    /// A scanner of these patterns, in this order. They are shared.
+    pub fn new(alloc: Global, patterns: &[Rc<Pattern>]) -> Result<Scanner, AllocError>
+        requires { length patterns.now < 2 ^ 32 }
+        ensures { IfOk result (λ s. s ≡ map rc_value patterns.now) }
+    {
+        let mut entries = Vec::with_capacity(alloc, patterns.len())?;
+        for pattern in patterns {
+            entries.push(Entry::of(alloc, pattern)?)?;
+        }
+        Ok(Scanner { entries })
+    }
+
+    /// The first match from a place on: places are tried in order, and at each the patterns in order. What the
+    /// groups took, `work` tells. Places count characters. The order is that of Oniguruma's scanner in vscode-textmate.
+    pub fn find(&self, work: &mut Work, text: &[char], from: u32, flags: Flags) -> Found
+        requires short { length text.now < 2 ^ 31 }
+        requires inside { from ≤ length text.now }
+        requires room { All (λ tree. tree.groups ≤ work.old.room) self.now }
+        ensures found { result ≡ first_match self.now text.now from flags work.old.budget }
+        ensures work { work.new ≡ record work.old { hit = captures_after self.now text.now from flags work.old.budget work.old.hit } }
+    {
+        let end = text.len() as u32 + 1;
+        for at in from..end {
+            match find_at(&self.entries, work, text, at, flags) {
+                Found::Nowhere => {}
+                found => return found,
+            }
+        }
+        Found::Nowhere
+    }
+}
