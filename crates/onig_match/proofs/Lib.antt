@@ -1,0 +1,4 @@
+pub mod Carries
+pub mod PileLemmas
+pub mod Steps
+pub mod VisitCounts
