@@ -1,4 +1,7 @@
 pub mod Carries
+pub mod Fronts
+pub mod Lists
 pub mod PileLemmas
 pub mod Steps
 pub mod VisitCounts
+pub mod VisitSteps

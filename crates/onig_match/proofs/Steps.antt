@@ -190,3 +190,15 @@ lead_entered on old area answer resume at result adds there is step ends = recor
     trail = ap (λ (p : Piled Change). p.room) adds.trail
   }
 }
+
+-- going back over one change
+
+pub record GoesBack (height : ℕ) (trail older : List Change) (captures : Captures) (change : Change) : Type 0 where
+  pub captures_stay : captures_at height older (slice_set captures change.number change.old) ≡ captures_at height trail captures
+  pub kept_stay : kept height older ≡ kept height trail
+
+pub goes_back : (height : ℕ) (trail older : List Change) (captures : Captures) (change : Change) → trail ≡ change ∷ older → height < length trail → GoesBack height trail older captures change
+goes_back height trail older captures change e low =
+    let many : length trail ≡ suc (length older) = ap length e in
+    let further : suc (length older) - height ≡ suc (length older - height) = omega arith in
+    rw e (record { captures_stay = rw further refl; kept_stay = rw further refl })

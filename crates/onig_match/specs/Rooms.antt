@@ -1,5 +1,5 @@
 -- The room for attempts, by its parts.
-use Rattle.std.specs.Prelude.{◌≡◌}
+use Rattle.std.specs.Prelude.{◌≡◌, ◌<◌, ◌^◌}
 use Rattle.onig_match.specs.Works.{Worked}
 use Rattle.onig_match.specs.declared.work.Work.TheInside.{Inside}
 
@@ -12,3 +12,4 @@ pub record IsWork (w : Inside) : Type 0 where
   pub cells : w.area.cells.room ≡ w.budget
   pub entries : w.area.entries.room ≡ w.budget
   pub trail : w.area.trail.room ≡ w.budget
+  pub small : w.room < 2 ^ 32

@@ -1,5 +1,5 @@
-ghost use Rattle.std.specs.Prelude.{◌≡◌, ◌+◌, ◌-◌, ◌<◌, ◌≤◌, ◌∷◌, length, Some};
-ghost use Rattle.pattern_defs.specs.Attempt.{Again};
+ghost use Rattle.std.specs.Prelude.{◌≡◌, ◌+◌, ◌-◌, ◌<◌, ◌≤◌, ◌∷◌, ◌==◌, ◌&&◌, nat_lt, not, length, Some};
+ghost use Rattle.pattern_defs.specs.Attempt.{Again, is_greatest};
 ghost use Rattle.onig_match.specs.Machine.{chain, todo_of, front_todo, captures_at, kept, acted, with_entry};
 ghost use Rattle.onig_match.specs.Sound.{IsRest, IsFront, IsSound, IsHere, HasRoom, AddsCell, Takes, Leads};
 
@@ -35,6 +35,24 @@ pub(crate) fn go(rest: Rest, at: u32) -> Step
     ensures { result ≡ Step.Go (record { rest = rest; at = at }) }
 {
     Step::Go(Point { rest, at })
+}
+
+/// Whether the last iteration took nothing.
+fn is_stuck(count: u32, begun: u32, at: u32) -> bool
+    ensures { result ≡ (nat_lt 0 count && (at == begun)) }
+{
+    count > 0 && at == begun
+}
+
+/// Whether as many iterations were done as may be.
+fn is_done(repeat: Repeated, count: u32) -> bool
+    ensures { result ≡ (not (nat_lt count repeat.least) && is_greatest repeat.most count) }
+{
+    let most = match repeat.most {
+        Some(most) => most == count,
+        None => false,
+    };
+    count >= repeat.least && most
 }
 
 impl Area {
@@ -150,11 +168,7 @@ impl Area {
         ensures { Leads on.now 1 self.old (acted on.now self.old
             (Again repeat.body repeat.least repeat.most repeat.greedy count begun) rest at) self.new result }
     {
-        if count > 0 && at == begun {
-            return go(rest, at);
-        }
-        let below = count < repeat.least;
-        if !below && repeat.most == Some(count) {
+        if is_stuck(count, begun, at) || is_done(repeat, count) {
             return go(rest, at);
         }
         self.cells.push(Cell::Iteration {
@@ -164,7 +178,7 @@ impl Area {
             rest,
         });
         let more = start_of(repeat.body, self.cells.len());
-        if below {
+        if count < repeat.least {
             return go(more, at);
         }
         if repeat.greedy {

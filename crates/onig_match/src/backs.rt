@@ -11,22 +11,7 @@ use crate::entries::Step;
 use crate::searched::Searched;
 use pattern_defs::Place;
 
-/// Whether a text begins with another.
-fn begins_so(text: &[char], part: &[char]) -> bool
-    ensures { result ≡ starts_with nat_eq text.now part.now }
-{
-    if part.len() > text.len() {
-        return false;
-    }
-    for (k, c) in part.iter().enumerate() {
-        if text[k] != *c {
-            return false;
-        }
-    }
-    true
-}
-
-/// The same in any ASCII case.
+/// Whether a text begins with another in any ASCII case.
 fn begins_in_any_case(text: &[char], part: &[char]) -> bool
     ensures { result ≡ starts_with nat_eq (map to_ascii_lowercase text.now) (map to_ascii_lowercase part.now) }
 {
@@ -55,7 +40,7 @@ fn is_again(text: &[char], taken: Place, at: u32, fold: bool) -> bool
     if fold {
         begins_in_any_case(here, part)
     } else {
-        begins_so(here, part)
+        here.starts_with(part)
     }
 }
 

@@ -1,0 +1,14 @@
+use Rattle.std.proofs.Common.{rules, ◌≡◌, ◌+◌, ◌<◌, ◌≤◌, ◌^◌, [], ◌∷◌, List, length, drop, filter, nat_le, slice_get, Some, IfSome, MatchOption, ℕ, ◌-◌, ◌*◌, ◌/◌, ◌%◌, Bool, true, false, nat_eq, nat_lt, ◌++◌, slice_index_or, slice_set, bit_and, bit_or, Fits, w8, w32, w64, Bor, MutBor}
+use Rattle.pattern_defs.specs.declared.nodes.Arm.{Arm}
+use Rattle.pattern_defs.specs.Attempt.{Hit, Miss}
+use Rattle.onig_match.specs.Machine.{subject, ids_at, arms_at, carried, with_entry}
+use Rattle.onig_match.specs.Sound.{IsSound, HasRoom, Leads, IsNextArm}
+use Rattle.onig_match.proofs.returns.arm_within.Goals as goal
+
+-- src/returns.rt:46:1
+pub returns-in-Behind-clause-there : goal.returns-in-Behind-clause-there
+returns-in-Behind-clause-there c = ?
+
+-- src/returns.rt:46:1
+pub returns-in_default : goal.returns-in_default
+returns-in_default c = ?
