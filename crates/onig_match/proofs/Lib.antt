@@ -2,6 +2,7 @@ pub mod Carries
 pub mod Fronts
 pub mod Lists
 pub mod PileLemmas
+pub mod ReturnSteps
 pub mod Steps
 pub mod VisitCounts
 pub mod VisitSteps
