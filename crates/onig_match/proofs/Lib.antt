@@ -1,6 +1,8 @@
 pub mod Carries
+pub mod Ends
 pub mod Fronts
 pub mod Lists
+pub mod NodeSteps
 pub mod PileLemmas
 pub mod ReturnSteps
 pub mod Steps

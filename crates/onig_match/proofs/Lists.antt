@@ -17,10 +17,10 @@ starts_with-drop [] (x ∷ xs) k h e = absurd (omega arith)
 starts_with-drop (y ∷ ys) (x ∷ xs) zero h e = refl
 starts_with-drop (y ∷ ys) (x ∷ xs) (suc k) h e = starts_with-drop ys xs k (omega arith) (omega arith)
 
-pub starts_with_longer : (text part : List ℕ) → length text < length part → starts_with nat_eq (lower text) (lower part) ≡ false
+pub starts_with_longer : (text part : List ℕ) → length text < length part → starts_with nat_eq text part ≡ false
 starts_with_longer text [] h = absurd (omega arith)
 starts_with_longer [] (x ∷ xs) h = refl
-starts_with_longer (y ∷ ys) (x ∷ xs) h = rw (starts_with_longer ys xs (omega arith)) (and_false (nat_eq (to_ascii_lowercase x) (to_ascii_lowercase y)))
+starts_with_longer (y ∷ ys) (x ∷ xs) h = rw (starts_with_longer ys xs (omega arith)) (and_false (nat_eq x y))
 
 pub filter-drop : {A : Type 0} (p : A → Bool) (xs : List A) (k : ℕ) (d : A) → k < length xs → filter p (drop k xs) ≡ cond (p (get_or xs k d)) (get_or xs k d ∷ filter p (drop (suc k) xs)) (filter p (drop (suc k) xs))
 filter-drop p [] k d h = absurd (omega arith)

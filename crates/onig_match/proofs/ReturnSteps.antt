@@ -146,7 +146,7 @@ pub miss_other : (on : Searched) (old : Area) (entry : Entry) (rest : Rest) → 
 miss_other on old entry rest sound e =
     lead_rewound on old entry (Go (record { rest = rest; at = entry.at })) sound (resume_kept on old entry (Other rest) sound e, sound.entries.0.at) (λ left. rw e refl)
 
-drop_some : {A : Type 0} (xs : List A) (k : ℕ) (x : A) → slice_get xs k ≡ Some x → drop k xs ≡ x ∷ drop (k + 1) xs
+pub drop_some : {A : Type 0} (xs : List A) (k : ℕ) (x : A) → slice_get xs k ≡ Some x → drop k xs ≡ x ∷ drop (k + 1) xs
 drop_some [] k x e = cc
 drop_some (y ∷ ys) zero x e = let same : y ≡ x = cc in rw same refl
 drop_some (y ∷ ys) (suc k) x e = let more : suc k + 1 ≡ suc (k + 1) = omega arith in rw more (drop_some ys k x e)

@@ -11,6 +11,13 @@ use crate::searched::Searched;
 use onig_parse::Pattern;
 use pattern_defs::{Arm, ListId, PatNode};
 
+fn id_at(ids: &[ListId], way: usize) -> Option<ListId>
+    ensures value { result ≡ slice_get ids.now way }
+    ensures next { IfSome result (λ _. way + 1 < 2 ^ 64) }
+{
+    ids.get(way).copied()
+}
+
 /// An alternative of a node.
 fn alternative(pattern: &Pattern, node: NodeAt, way: usize) -> Option<ListId>
     requires { node.list.0 < length pattern.now.lists }
@@ -23,7 +30,7 @@ fn alternative(pattern: &Pattern, node: NodeAt, way: usize) -> Option<ListId>
         return None;
     }
     match &nodes[node.index] {
-        PatNode::Choice(ids) => ids.as_slice().get(way).copied(),
+        PatNode::Choice(ids) => id_at(ids.as_slice(), way),
         _ => None,
     }
 }

@@ -1,29 +1,36 @@
-use Rattle.std.proofs.Common.{rules, ◌≡◌, ℕ, suc, ◌+◌, ◌-◌, ◌<◌, ◌≤◌, ◌^◌, length, slice_get, Option, Some, None, IsSome, ◌*◌, ◌/◌, ◌%◌, Bool, true, false, nat_eq, nat_lt, List, [], ◌∷◌, ◌++◌, slice_index_or, slice_set, bit_and, bit_or, Fits, w8, w32, w64, Bor, MutBor}
-use Rattle.char_sets.specs.Ranges.{in_set}
-use Rattle.pattern_defs.specs.declared.nodes.PatNode.{PatNode}
-use Rattle.pattern_defs.specs.declared.nodes.PatNode.TheVariants.{Choice, Group, Ahead, Behind, Atomic}
-use Rattle.pattern_defs.specs.Patterns.{IsNode, nodes_of}
-use Rattle.pattern_defs.specs.Attempt.{Node, Close, is_char, holds_at}
-use Rattle.onig_match.specs.Machine.{subject, step_where, ids_at, arms_at, acted, means, node_of, behind_node}
-use Rattle.onig_match.specs.Sound.{IsHere, IsRest, IsSound, HasRoom, Leads}
+use Rattle.std.proofs.Common.{◌≡◌, ◌∙◌, ◌∷◌, length, sym}
+use Rattle.std.specs.Prelude.{Some, slice_get}
+use Rattle.pattern_defs.specs.Patterns.{nodes_of}
+use Rattle.pattern_defs.specs.Attempt.{Node, Close, Again}
+use Rattle.onig_match.specs.Machine.{behind_node}
+use Rattle.onig_match.proofs.NodeSteps.{AreNodes-get, node_there, node_todo, lead_end, lead_visit}
 use Rattle.onig_match.proofs.area.Area.visit.Goals as goal
 
--- src/visits.rt:186:17
 pub visit_node-requires-clause-names : goal.visit_node-requires-clause-names
-visit_node-requires-clause-names c = ?
+visit_node-requires-clause-names c =
+    let there : slice_get (nodes_of c.args.on.now.pattern.now.lists c.in-AtNode.rest.list) c.in-AtNode.rest.index ≡ Some c.index-nodes-rest.result =
+    node_there c.args.on.now.pattern.now.lists c.list-nodes.result.now c.in-AtNode.rest c.index-nodes-rest.result c.list-nodes.ensures.nodes (c.in-AtNode.ensures).sound.1 c.index-nodes-rest.is in
+    AreNodes-get (length c.args.on.now.pattern.now.lists) c.args.on.now.pattern.now.groups c.list-nodes.result.now c.in-AtNode.rest.index c.index-nodes-rest.result c.list-nodes.ensures.names
+    (rw c.list-nodes.ensures.nodes there)
 
--- src/visits.rt:178:5
 pub returns-in-AtEnd : goal.returns-in-AtEnd
-returns-in-AtEnd c = ?
+returns-in-AtEnd c = lead_end c.args.on.now c.args.self.now c.args.point c.requires (sym (c.in-AtEnd.ensures).todo)
 
--- src/visits.rt:178:5
 pub returns-in-AtNode : goal.returns-in-AtNode
-returns-in-AtNode c = ?
+returns-in-AtNode c =
+    let there : slice_get (nodes_of c.args.on.now.pattern.now.lists c.in-AtNode.rest.list) c.in-AtNode.rest.index ≡ Some c.index-nodes-rest.result =
+    node_there c.args.on.now.pattern.now.lists c.list-nodes.result.now c.in-AtNode.rest c.index-nodes-rest.result c.list-nodes.ensures.nodes (c.in-AtNode.ensures).sound.1 c.index-nodes-rest.is in
+    lead_visit c.args.on.now c.args.self.now c.visit_node.new.self c.args.point (Node c.index-nodes-rest.result) (behind_node c.in-AtNode.rest) c.visit_node.result
+    (sym (c.in-AtNode.ensures).todo ∙ node_todo c.args.on.now.pattern.now.lists c.args.self.now.cells.items c.in-AtNode.rest c.index-nodes-rest.result there)
+    c.visit_node.ensures
 
--- src/visits.rt:178:5
 pub returns-in-AtGroupEnd : goal.returns-in-AtGroupEnd
-returns-in-AtGroupEnd c = ?
+returns-in-AtGroupEnd c =
+    lead_visit c.args.on.now c.args.self.now c.visit_group_end.new.self c.args.point (Close c.in-AtGroupEnd.group c.in-AtGroupEnd.from) c.in-AtGroupEnd.rest c.visit_group_end.result
+    (sym (c.in-AtGroupEnd.ensures).todo) c.visit_group_end.ensures
 
--- src/visits.rt:178:5
 pub returns-in-AtIteration : goal.returns-in-AtIteration
-returns-in-AtIteration c = ?
+returns-in-AtIteration c =
+    lead_visit c.args.on.now c.args.self.now c.repeat.new.self c.args.point
+    (Again c.in-AtIteration.repeat.body c.in-AtIteration.repeat.least c.in-AtIteration.repeat.most c.in-AtIteration.repeat.greedy c.in-AtIteration.count c.in-AtIteration.begun)
+    c.in-AtIteration.rest c.repeat.result (sym (c.in-AtIteration.ensures).todo) c.repeat.ensures

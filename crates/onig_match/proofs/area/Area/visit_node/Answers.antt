@@ -1,25 +1,22 @@
-use Rattle.std.proofs.Common.{rules, ◌≡◌, ℕ, suc, ◌+◌, ◌-◌, ◌<◌, ◌≤◌, ◌^◌, length, slice_get, Option, Some, None, IsSome, ◌*◌, ◌/◌, ◌%◌, Bool, true, false, nat_eq, nat_lt, List, [], ◌∷◌, ◌++◌, slice_index_or, slice_set, bit_and, bit_or, Fits, w8, w32, w64, Bor, MutBor}
-use Rattle.char_sets.specs.Ranges.{in_set}
-use Rattle.pattern_defs.specs.declared.nodes.PatNode.{PatNode}
-use Rattle.pattern_defs.specs.declared.nodes.PatNode.TheVariants.{Choice, Group, Ahead, Behind, Atomic}
-use Rattle.pattern_defs.specs.Patterns.{IsNode, nodes_of}
-use Rattle.pattern_defs.specs.Attempt.{Node, Close, is_char, holds_at}
-use Rattle.onig_match.specs.Machine.{subject, step_where, ids_at, arms_at, acted, means, node_of, behind_node}
-use Rattle.onig_match.specs.Sound.{IsHere, IsRest, IsSound, HasRoom, Leads}
+use Rattle.std.proofs.Common.{length}
+use Rattle.onig_match.proofs.Steps.{AreTaken-get}
+use Rattle.onig_match.proofs.NodeSteps.{lead_one, lead_anchor, lead_back}
 use Rattle.onig_match.proofs.area.Area.visit_node.Goals as goal
 
--- src/visits.rt:172:17
 pub steps_back-requires-clause-taken : goal.steps_back-requires-clause-taken
-steps_back-requires-clause-taken c = ?
+steps_back-requires-clause-taken c =
+    AreTaken-get (length c.args.on.now.text.now) c.args.self.now.captures.items c.in-Back.number c.get.result c.requires.here.sound.captures c.get.ensures
 
--- src/visits.rt:139:5
 pub returns-in-One : goal.returns-in-One
-returns-in-One c = ?
+returns-in-One c =
+    rw (c.visit_one.ensures, c.after_node-rest.ensures) (lead_one c.args.on.now c.args.self.now c.args.node.now c.args.here c.args.at c.in-One.set c.requires.here c.in-One.is)
 
--- src/visits.rt:139:5
 pub returns-in-At : goal.returns-in-At
-returns-in-At c = ?
+returns-in-At c =
+    rw (c.visit_anchor.ensures, c.after_node-rest.ensures) (lead_anchor c.args.on.now c.args.self.now c.args.node.now c.args.here c.args.at c.in-At.anchor c.requires.here c.in-At.is)
 
--- src/visits.rt:139:5
 pub returns-in-Back : goal.returns-in-Back
-returns-in-Back c = ?
+returns-in-Back c =
+    rw (c.steps_back.ensures, c.after_node-rest.ensures)
+    (lead_back c.args.on.now c.args.self.now c.args.node.now c.args.here c.args.at c.in-Back.number c.in-Back.fold c.get.result c.requires.here c.in-Back.is c.get.ensures
+    (AreTaken-get (length c.args.on.now.text.now) c.args.self.now.captures.items c.in-Back.number c.get.result c.requires.here.sound.captures c.get.ensures))
