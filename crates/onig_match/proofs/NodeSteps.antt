@@ -155,7 +155,8 @@ lead_visit on old new point first rest result todo leads = record {
   sound = leads.sound;
   step = leads.step;
   room = leads.room;
-  rooms = leads.rooms
+  rooms = leads.rooms;
+  falls = leads.falls
 }
 
 pub node_there : (lists : NodeLists) (nodes : List PatNode) (here : Rest) (node : PatNode) → nodes ≡ nodes_of lists here.list → here.index < length (nodes_of lists here.list) → node ≡ get_or nodes here.index node → slice_get (nodes_of lists here.list) here.index ≡ Some node

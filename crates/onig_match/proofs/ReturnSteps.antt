@@ -1,5 +1,5 @@
 -- How going back, and an end of an attempt of its own, lead on.
-use Rattle.std.proofs.Common.{◌≡◌, ℕ, zero, suc, ◌+◌, ◌-◌, ◌^◌, ◌<◌, ◌≤◌, List, [], ◌∷◌, ◌++◌, length, take, drop, map, cond, refl, sym, ap, subst, ◌∙◌, arith}
+use Rattle.std.proofs.Common.{◌≡◌, ℕ, zero, suc, ◌+◌, ◌-◌, ◌*◌, ◌^◌, ◌<◌, ◌≤◌, List, [], ◌∷◌, ◌++◌, length, take, drop, map, cond, refl, sym, ap, subst, ◌∙◌, arith}
 use Rattle.std.specs.Prelude.{Bool, true, false, nat_le, filter, Option, Some, None, slice_get, slice_set}
 use Rattle.std.proofs.lemmas.List.{length-drop}
 use Rattle.std.proofs.lemmas.Bool.{le-leb}
@@ -21,10 +21,10 @@ use Rattle.onig_match.specs.declared.area.Area.{Area}
 use Rattle.onig_match.specs.declared.searched.Searched.{Searched}
 use Rattle.onig_match.specs.Goes.{goes}
 use Rattle.onig_match.specs.Piles.{Piled}
-use Rattle.onig_match.specs.Machine.{subject, kept, chain, todo_of, captures_at, resumed, carry, carried, ran_of, with_entry, ids_at, arms_at}
+use Rattle.onig_match.specs.Machine.{subject, kept, chain, todo_of, captures_at, resumed, carry, carried, ran_of, with_entry, ids_at, arms_at, rank}
 use Rattle.onig_match.specs.Sound.{IsRest, AreCells, IsResume, IsEntry, AreEntries, IsSound, IsStep, HasRoom, Leads, IsNextArm}
 use Rattle.onig_match.proofs.Carries.{length-kept, carry-entry, carry-skip, chain-zero}
-use Rattle.onig_match.proofs.Steps.{IsRest-widen, AreEntries-widen, AreCells-drop, AreChanges-drop, AreTaken-undone, length-undone, made, sound_entered}
+use Rattle.onig_match.proofs.Steps.{IsRest-widen, AreEntries-widen, AreCells-drop, AreChanges-drop, AreTaken-undone, length-undone, made, sound_entered, rank_small}
 use Rattle.onig_match.proofs.VisitSteps.{start, start_alone, with_cells}
 
 -- everything as it was at the entry
@@ -101,11 +101,12 @@ lead_rewound on old entry result sound step ends = record {
   sound = sound_rewound on old entry sound;
   step = step;
   room = room_kept on old entry sound;
-  rooms = record { captures = refl; cells = refl; entries = refl; trail = refl }
+  rooms = record { captures = refl; cells = refl; entries = refl; trail = refl };
+  falls = omega (arith, rank_small result)
 }
 
-lead_reentered : (on : Searched) (old : Area) (entry : Entry) (resume : Resume) (result : Step) → IsSound on (with_entry old entry) → IsResume on.pattern.now (length (kept entry.cells old.cells.items)) resume → IsStep on (length (kept entry.cells old.cells.items)) result → ((left : ℕ) → resumed (subject on) (kept entry.cells old.cells.items) (captures_at entry.trail old.trail.items old.captures.items) resume entry.at (ran_of (subject on) (rewound old entry) result left) ≡ resumed (subject on) (kept entry.cells old.cells.items) (captures_at entry.trail old.trail.items old.captures.items) entry.resume entry.at (Miss left)) → Leads on 0 (with_entry old entry) (missed on old entry) (with_entry (rewound old entry) (made (rewound old entry) resume entry.at)) result
-lead_reentered on old entry resume result sound is step ends = record {
+lead_reentered : (on : Searched) (old : Area) (entry : Entry) (resume : Resume) (result : Step) → rank result ≡ 0 → IsSound on (with_entry old entry) → IsResume on.pattern.now (length (kept entry.cells old.cells.items)) resume → IsStep on (length (kept entry.cells old.cells.items)) result → ((left : ℕ) → resumed (subject on) (kept entry.cells old.cells.items) (captures_at entry.trail old.trail.items old.captures.items) resume entry.at (ran_of (subject on) (rewound old entry) result left) ≡ resumed (subject on) (kept entry.cells old.cells.items) (captures_at entry.trail old.trail.items old.captures.items) entry.resume entry.at (Miss left)) → Leads on 0 (with_entry old entry) (missed on old entry) (with_entry (rewound old entry) (made (rewound old entry) resume entry.at)) result
+lead_reentered on old entry resume result goes_on sound is step ends = record {
   ends = λ left.
     carry-entry (subject on) (rewound old entry).cells.items (rewound old entry).trail.items (rewound old entry).captures.items (made (rewound old entry) resume entry.at) old.entries.items
     (ran_of (subject on) (rewound old entry) result left) refl refl
@@ -118,7 +119,8 @@ lead_reentered on old entry resume result sound is step ends = record {
     trail = (room_kept on old entry sound left has).trail;
     small = has.small
   };
-  rooms = record { captures = refl; cells = refl; entries = refl; trail = refl }
+  rooms = record { captures = refl; cells = refl; entries = refl; trail = refl };
+  falls = omega (arith, goes_on)
 }
 
 lead_cut : (on : Searched) (old : Area) (entry : Entry) (end : ℕ) (result : Step) → IsSound on (with_entry old entry) → IsStep on (length (kept entry.cells old.cells.items)) result → ((left : ℕ) → ran_of (subject on) (cut old entry) result left ≡ resumed (subject on) (kept entry.cells old.cells.items) (captures_at entry.trail old.trail.items old.captures.items) entry.resume entry.at (Hit end old.captures.items left)) → Leads on 0 (with_entry old entry) (hits on old entry end) (cut old entry) result
@@ -137,7 +139,8 @@ lead_cut on old entry end result sound step ends = record {
     trail = omega (arith, has.trail);
     small = has.small
   };
-  rooms = record { captures = refl; cells = refl; entries = refl; trail = refl }
+  rooms = record { captures = refl; cells = refl; entries = refl; trail = refl };
+  falls = omega (arith, rank_small result)
 }
 
 -- at a miss
@@ -161,7 +164,7 @@ pub miss_alternative : (on : Searched) (old : Area) (entry : Entry) (node : Node
 miss_alternative on old entry node way next id sound e there inside =
     let ways : drop way (ids_at on.pattern.now.lists node) ≡ id ∷ drop (way + 1) (ids_at on.pattern.now.lists node) = drop_some (ids_at on.pattern.now.lists node) way id (sym there) in
     let is : IsResume on.pattern.now (length (kept entry.cells old.cells.items)) (Alternatives node way next) = resume_kept on old entry (Alternatives node way next) sound e in
-    lead_reentered on old entry (Alternatives node (way + 1) next) (Go (record { rest = start id next; at = entry.at })) sound is
+    lead_reentered on old entry (Alternatives node (way + 1) next) (Go (record { rest = start id next; at = entry.at })) refl sound is
     (record { list = inside; next = is.1 }, sound.entries.0.at)
     (λ left. rw (e, ways) refl)
 
@@ -217,7 +220,7 @@ miss_arm on old entry node arm k one wanted rest sound e next inside =
     let captures : Captures = captures_at entry.trail old.trail.items old.captures.items in
     let is : IsResume on.pattern.now (length cells) (AfterBehind node arm wanted rest) = resume_kept on old entry (AfterBehind node arm wanted rest) sound e in
     let early : entry.at ≤ length on.text.now = sound.entries.0.at in
-    lead_reentered on old entry (AfterBehind node (k + 1) wanted rest) (Go (record { rest = start one.body 0; at = entry.at - one.length })) sound is
+    lead_reentered on old entry (AfterBehind node (k + 1) wanted rest) (Go (record { rest = start one.body 0; at = entry.at - one.length })) refl sound is
     (record { list = inside; next = omega arith }, omega arith)
     (λ left. rw (e, start_alone on.pattern.now.lists cells one.body)
     (ap (λ (ran : Ran). looked wanted ran (goes s) (todo_of on.pattern.now.lists cells rest) entry.at captures)

@@ -1,5 +1,5 @@
 -- What holds of the stack after each change of it, and how a step leads on.
-use Rattle.std.proofs.Common.{◌≡◌, ℕ, zero, suc, ◌+◌, ◌-◌, ◌^◌, ◌<◌, ◌≤◌, List, [], ◌∷◌, ◌++◌, length, take, drop, map, refl, sym, ap, subst, ◌∙◌, arith}
+use Rattle.std.proofs.Common.{◌≡◌, ℕ, zero, suc, ◌+◌, ◌-◌, ◌*◌, ◌^◌, ◌<◌, ◌≤◌, List, [], ◌∷◌, ◌++◌, length, take, drop, map, refl, sym, ap, subst, ◌∙◌, arith}
 use Rattle.std.specs.Prelude.{Bool, true, false, Option, Some, None, slice_get, slice_set}
 use Rattle.std.proofs.lemmas.List.{length-drop, length-set}
 use Rattle.pattern_defs.specs.declared.outcomes.Place.{Place}
@@ -16,7 +16,7 @@ use Rattle.onig_match.specs.declared.entries.Step.TheVariants.{Go, Found, Failed
 use Rattle.onig_match.specs.declared.area.Area.{Area}
 use Rattle.onig_match.specs.declared.searched.Searched.{Searched}
 use Rattle.onig_match.specs.Piles.{Piled}
-use Rattle.onig_match.specs.Machine.{subject, kept, chain, todo_of, cell_todo, undone, captures_at, resumed, carry, carried, ran_of, means, with_entry}
+use Rattle.onig_match.specs.Machine.{subject, kept, chain, todo_of, cell_todo, undone, captures_at, resumed, carry, carried, ran_of, means, with_entry, rank}
 use Rattle.onig_match.specs.Sound.{IsRest, IsCell, AreCells, IsResume, IsEntry, AreEntries, IsTaken, AreTaken, AreChanges, IsSound, IsStep, HasRoom, SameRooms, Leads, AddsCell, Takes}
 use Rattle.onig_match.proofs.Carries.{length-kept, chain-older, chain-newest, todo_of-older, carry-cell, carry-change, carry-entry, carry-skip}
 
@@ -136,6 +136,11 @@ AddsCell-new on area cell cells sound is e =
 
 -- how a step leads on
 
+pub rank_small : (step : Step) → rank step ≤ 1
+rank_small (Go point) = omega arith
+rank_small (Found at) = omega arith
+rank_small Failed = omega arith
+
 -- where at most a cell was added
 pub lead_added : (on : Searched) (old area : Area) (answer : ℕ → Ran) (result : Step) → AddsCell on old area → IsStep on (length area.cells.items) result → ((left : ℕ) → carried (subject on) area (ran_of (subject on) area result left) ≡ answer left) → Leads on 1 old answer area result
 lead_added on old area answer result adds step ends = record {
@@ -153,7 +158,8 @@ lead_added on old area answer result adds step ends = record {
     cells = adds.room;
     entries = ap (λ (p : Piled Entry). p.room) adds.entries;
     trail = ap (λ (p : Piled Change). p.room) adds.trail
-  }
+  };
+  falls = rw adds.entries (omega (arith, rank_small result))
 }
 
 -- the entry that is made at a place
@@ -188,7 +194,8 @@ lead_entered on old area answer resume at result adds there is step ends = recor
     cells = adds.room;
     entries = ap (λ (p : Piled Entry). p.room) adds.entries;
     trail = ap (λ (p : Piled Change). p.room) adds.trail
-  }
+  };
+  falls = rw adds.entries (omega (arith, rank_small result))
 }
 
 -- going back over one change

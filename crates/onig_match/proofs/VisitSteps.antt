@@ -146,7 +146,8 @@ lead_taken on old new group from rest at here numbered early takes =
         trail = omega (arith, has.trail);
         small = has.small
       };
-      rooms = record { captures = refl; cells = refl; entries = refl; trail = refl }
+      rooms = record { captures = refl; cells = refl; entries = refl; trail = refl };
+      falls = omega arith
     })
 
 -- attempts of their own

@@ -155,3 +155,9 @@ abbrev pub end_of : Ran → End
 end_of (Hit at captures left) = ends.Found at
 end_of (Miss left) = ends.Failed
 end_of Spent = ends.Spent
+
+-- a step that goes on comes after one that ends
+abbrev pub rank : Step → ℕ
+rank (Go point) = 0
+rank (Found at) = 1
+rank Failed = 1

@@ -1,5 +1,5 @@
 -- What holds of the stack of an attempt at each step.
-use Rattle.std.specs.Prelude.{◌≡◌, ℕ, ◌+◌, ◌^◌, ◌<◌, ◌≤◌, List, [], ◌∷◌, length, drop, filter, nat_le, Option, Some, None, slice_get, slice_set}
+use Rattle.std.specs.Prelude.{◌≡◌, ℕ, ◌+◌, ◌*◌, ◌^◌, ◌<◌, ◌≤◌, List, [], ◌∷◌, length, drop, filter, nat_le, Option, Some, None, slice_get, slice_set}
 use Rattle.pattern_defs.specs.declared.nodes.Arm.{Arm}
 use Rattle.pattern_defs.specs.declared.outcomes.Place.{Place}
 use Rattle.pattern_defs.specs.Patterns.{NodeLists, Tree, nodes_of}
@@ -17,7 +17,7 @@ use Rattle.onig_match.specs.declared.entries.Step.{Step}
 use Rattle.onig_match.specs.declared.entries.Step.TheVariants.{Go, Found, Failed}
 use Rattle.onig_match.specs.declared.area.Area.{Area}
 use Rattle.onig_match.specs.declared.searched.Searched.{Searched}
-use Rattle.onig_match.specs.Machine.{subject, means, carried, todo_of}
+use Rattle.onig_match.specs.Machine.{subject, means, carried, todo_of, rank}
 
 -- the rest of a list of the pattern, before one of the first cells
 pub record IsRest (tree : Tree) (cells : ℕ) (rest : Rest) : Type 0 where
@@ -114,6 +114,7 @@ pub record Leads (on : Searched) (visits : ℕ) (old : Area) (answer : ℕ → R
   pub step : IsStep on (length new.cells.items) result
   pub room : (left : ℕ) → HasRoom old (left + visits) → HasRoom new left
   pub rooms : SameRooms old new
+  pub falls : 2 * length new.entries.items + rank result ≤ 2 * length old.entries.items + 3 * visits
 
 -- at most a cell is added, which changes no end of the attempt
 pub record AddsCell (on : Searched) (old new : Area) : Type 0 where

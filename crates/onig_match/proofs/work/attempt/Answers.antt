@@ -1,42 +1,49 @@
-use Rattle.std.proofs.Common.{rules, ◌≡◌, ◌≢◌, ◌+◌, ◌-◌, ◌*◌, ◌<◌, ◌≤◌, ◌^◌, [], length, replicate, slice_get, None, IfOk, IsTrue, option_and_then, ℕ, ◌/◌, ◌%◌, Bool, true, false, nat_eq, nat_lt, List, ◌∷◌, ◌++◌, slice_index_or, slice_set, bit_and, bit_or, Fits, w8, w32, w64, Bor, MutBor}
-use Rattle.pattern_defs.specs.declared.outcomes.Outcome.TheVariants as outcomes
-use Rattle.pattern_defs.specs.Patterns.{is_flat, size_of}
-use Rattle.pattern_defs.specs.Attempt.{attempt as attempt_of}
-use Rattle.pattern_defs.specs.Attempt.{before, capture_of, outcome_of, hit_after}
-use Rattle.onig_match.specs.Goes.{goes}
-use Rattle.onig_match.specs.Machine.{subject, end_of}
-use Rattle.onig_match.specs.Sound.{IsSound, IsHere, HasRoom, SameRooms}
+use Rattle.std.proofs.Common.{◌≡◌, ◌∙◌, sym, ap}
+use Rattle.pattern_defs.specs.Attempt.{Captures, attempt, with_whole, outcome_of, hit_after}
 use Rattle.onig_match.specs.Works.{Worked}
+use Rattle.onig_match.proofs.Ends.{attempt-goes, found_outcome, found_hit, failed_outcome, failed_hit, spent_outcome, spent_hit, sound_empty}
 use Rattle.onig_match.proofs.work.attempt.Goals as goal
 
--- src/work.rt:182:11
 pub run-requires-clause-sound : goal.run-requires-clause-sound
-run-requires-clause-sound c = ?
+run-requires-clause-sound c =
+    sound_empty (record { pattern = c.args.pattern; text = c.args.text; flags = c.args.flags }) c.reset.new.self _ _ _ _ (rw c.groups.ensures at c.reset.ensures)
 
--- src/work.rt:160:1
 pub returns-in-Found-clause-outcome : goal.returns-in-Found-clause-outcome
-returns-in-Found-clause-outcome c = ?
+returns-in-Found-clause-outcome c =
+    let ended = rw (c.reset.ensures, c.groups.ensures) at (c.in-Found.ensures).end in
+    rw (← c.work.view_is, attempt-goes c.args.pattern.now c.args.text.now c.args.at c.args.flags c.work.inside.budget) (found_outcome _ c.args.at c.in-Found.end ended)
 
--- src/work.rt:160:1
 pub returns-in-Found-clause-work : goal.returns-in-Found-clause-work
-returns-in-Found-clause-work c = ?
+returns-in-Found-clause-work c =
+    let ended = rw (c.reset.ensures, c.groups.ensures) at (c.in-Found.ensures).end in
+    let seen = rw (c.reset.ensures, c.groups.ensures) at (c.in-Found.ensures).captures in
+    rw (← c.work.view_is, c.swap.ensures.x_after, c.set.ensures, attempt-goes c.args.pattern.now c.args.text.now c.args.at c.args.flags c.work.inside.budget)
+    (ap (λ (hit : Captures). let w : Worked = record { budget = c.work.inside.budget; room = c.work.inside.room; hit = hit } in w)
+    (found_hit _ c.args.at c.in-Found.end c.run.new.self.captures.items c.work.inside.hit.items ended seen))
 
--- src/work.rt:160:1
 pub returns-in-Failed-clause-outcome : goal.returns-in-Failed-clause-outcome
-returns-in-Failed-clause-outcome c = ?
+returns-in-Failed-clause-outcome c =
+    let ended = rw (c.reset.ensures, c.groups.ensures) at (c.in-Failed.ensures).end in
+    rw (← c.work.view_is, attempt-goes c.args.pattern.now c.args.text.now c.args.at c.args.flags c.work.inside.budget) (failed_outcome _ c.args.at ended)
 
--- src/work.rt:160:1
 pub returns-in-Failed-clause-work : goal.returns-in-Failed-clause-work
-returns-in-Failed-clause-work c = ?
+returns-in-Failed-clause-work c =
+    let ended = rw (c.reset.ensures, c.groups.ensures) at (c.in-Failed.ensures).end in
+    rw (← c.work.view_is, attempt-goes c.args.pattern.now c.args.text.now c.args.at c.args.flags c.work.inside.budget)
+    (ap (λ (hit : Captures). let w : Worked = record { budget = c.work.inside.budget; room = c.work.inside.room; hit = hit } in w)
+    (failed_hit _ c.args.at c.work.inside.hit.items ended))
 
--- src/work.rt:160:1
 pub returns-in-Spent-clause-outcome : goal.returns-in-Spent-clause-outcome
-returns-in-Spent-clause-outcome c = ?
+returns-in-Spent-clause-outcome c =
+    let ended = rw (c.reset.ensures, c.groups.ensures) at (c.in-Spent.ensures).end in
+    rw (← c.work.view_is, attempt-goes c.args.pattern.now c.args.text.now c.args.at c.args.flags c.work.inside.budget) (spent_outcome _ c.args.at ended)
 
--- src/work.rt:160:1
 pub returns-in-Spent-clause-work : goal.returns-in-Spent-clause-work
-returns-in-Spent-clause-work c = ?
+returns-in-Spent-clause-work c =
+    let ended = rw (c.reset.ensures, c.groups.ensures) at (c.in-Spent.ensures).end in
+    rw (← c.work.view_is, attempt-goes c.args.pattern.now c.args.text.now c.args.at c.args.flags c.work.inside.budget)
+    (ap (λ (hit : Captures). let w : Worked = record { budget = c.work.inside.budget; room = c.work.inside.room; hit = hit } in w)
+    (spent_hit _ c.args.at c.work.inside.hit.items ended))
 
--- src/work.rt:160:1
 pub returns-in-Spent-clause-flat : goal.returns-in-Spent-clause-flat
 returns-in-Spent-clause-flat c = ?
