@@ -1,5 +1,6 @@
 pub mod Carries
 pub mod Ends
+pub mod Flat
 pub mod Fronts
 pub mod Lists
 pub mod NodeSteps

@@ -46,7 +46,7 @@ AllIds-get n (id ∷ ids) (suc k) all = AllIds-get n ids k all.1
 pub id_inside : (n groups : ℕ) (nodes : List PatNode) (k way : ℕ) (node : PatNode) (ids : List ListId) (result : Option ListId) → AreNodes n groups nodes → k < length nodes → node ≡ get_or nodes k node → node ≡ Choice ids → result ≡ slice_get ids way → IfSome result (λ id. id.0 < n)
 id_inside n groups nodes k way node ids result are low read e is =
     let there : slice_get nodes k ≡ Some (Choice ids) = slice_get_read nodes (length nodes) k node refl low read ∙ ap (λ (v : PatNode). Some v) e in
-    rw is (AllIds-get n ids way (AreNodes-get n groups nodes k (Choice ids) are there))
+    rw is (AllIds-get n ids way (AreNodes-get n groups nodes k (Choice ids) are there).0)
 
 no_ids : (node : PatNode) → ((ids : List ListId) → node ≡ Choice ids → ⊥) → ids_in (Some node) ≡ []
 no_ids (One set) not_it = refl

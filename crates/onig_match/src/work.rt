@@ -1,6 +1,6 @@
 ghost use Rattle.std.specs.Prelude.{◌≡◌, ◌≢◌, ◌+◌, ◌-◌, ◌*◌, ◌<◌, ◌≤◌, ◌^◌, [], length, replicate, slice_get, None, IfOk, IsTrue, option_and_then};
 ghost use Rattle.pattern_defs.specs.declared.outcomes.Outcome.TheVariants as outcomes;
-ghost use Rattle.pattern_defs.specs.Patterns.{is_flat, size_of};
+ghost use Rattle.pattern_defs.specs.Patterns.{is_flat, size_of, AreLists};
 ghost use Rattle.pattern_defs.specs.Attempt.{attempt as attempt_of, before, capture_of, outcome_of, hit_after};
 ghost use Rattle.onig_match.specs.Goes.{goes};
 ghost use Rattle.onig_match.specs.Machine.{subject, end_of};
@@ -81,6 +81,7 @@ impl Area {
             (before on.now.pattern.now.lists on.now.pattern.now.top []) at self.old.captures.items budget)
             self.new.captures.items }
         ensures groups { length self.new.captures.items ≡ on.now.pattern.now.groups + 1 }
+        ensures names { AreLists 0 on.now.pattern.now.groups on.now.pattern.now.lists }
         ensures rooms { SameRooms self.old self.new }
     {
         let mut left = budget;

@@ -2,6 +2,7 @@ use Rattle.std.proofs.Common.{◌≡◌, ◌∙◌, sym, ap}
 use Rattle.pattern_defs.specs.Attempt.{Captures, attempt, with_whole, outcome_of, hit_after}
 use Rattle.onig_match.specs.Works.{Worked}
 use Rattle.onig_match.proofs.Ends.{attempt-goes, found_outcome, found_hit, failed_outcome, failed_hit, spent_outcome, spent_hit, sound_empty}
+use Rattle.onig_match.proofs.Flat.{flat_is_never_spent}
 use Rattle.onig_match.proofs.work.attempt.Goals as goal
 
 pub run-requires-clause-sound : goal.run-requires-clause-sound
@@ -46,4 +47,5 @@ returns-in-Spent-clause-work c =
     (spent_hit _ c.args.at c.work.inside.hit.items ended))
 
 pub returns-in-Spent-clause-flat : goal.returns-in-Spent-clause-flat
-returns-in-Spent-clause-flat c = ?
+returns-in-Spent-clause-flat c =
+    λ flat enough _. flat_is_never_spent c.args.pattern.now c.args.text.now c.args.at c.args.flags c.args.work.now.budget (c.in-Spent.ensures).names flat enough (returns-in-Spent-clause-outcome c)
