@@ -38,7 +38,8 @@ kept-kept e h xs low high =
 
 -- captures
 
-undone-twice : (a b : ℕ) (trail : List Change) (captures : Captures) → undone (take b (drop a trail)) (undone (take a trail) captures) ≡ undone (take (a + b) trail) captures
+undone-twice : (a b : ℕ) (trail : List Change) (captures : Captures) →
+    undone (take b (drop a trail)) (undone (take a trail) captures) ≡ undone (take (a + b) trail) captures
 undone-twice zero b trail captures = let e : 0 + b ≡ b = omega arith in rw e refl
 undone-twice (suc a) zero [] captures = let e : suc a + 0 ≡ suc a = omega arith in rw e refl
 undone-twice (suc a) (suc b) [] captures = let e : suc a + suc b ≡ suc (a + suc b) = omega arith in rw e refl
@@ -46,7 +47,8 @@ undone-twice (suc a) b (change ∷ trail) captures =
     let e : suc a + b ≡ suc (a + b) = omega arith in
     rw e (undone-twice a b trail (slice_set captures change.number change.old))
 
-pub captures_at-kept : (e h : ℕ) (trail : List Change) (captures : Captures) → e ≤ h → h ≤ length trail → captures_at e (kept h trail) (captures_at h trail captures) ≡ captures_at e trail captures
+pub captures_at-kept : (e h : ℕ) (trail : List Change) (captures : Captures) → e ≤ h → h ≤ length trail →
+    captures_at e (kept h trail) (captures_at h trail captures) ≡ captures_at e trail captures
 captures_at-kept e h trail captures low high =
     let first : length (drop (length trail - h) trail) - e ≡ h - e = omega (arith, length-drop (length trail - h) trail) in
     let both : (length trail - h) + (h - e) ≡ length trail - e = omega arith in
@@ -55,12 +57,15 @@ captures_at-kept e h trail captures low high =
 pub captures_at-all : (trail : List Change) (captures : Captures) → captures_at (length trail) trail captures ≡ captures
 captures_at-all trail captures = let e : length trail - length trail ≡ 0 = omega arith in rw e refl
 
-restored : (captures : Captures) (n : ℕ) (old new : Option Place) → slice_get captures n ≡ Some old → slice_set (slice_set captures n new) n old ≡ captures
+restored : (captures : Captures) (n : ℕ) (old new : Option Place) → slice_get captures n ≡ Some old →
+    slice_set (slice_set captures n new) n old ≡ captures
 restored [] n old new is = refl
 restored (x ∷ xs) zero old new is = let e : x ≡ old = cc in rw e refl
 restored (x ∷ xs) (suc n) old new is = ap (λ (rest : Captures). x ∷ rest) (restored xs n old new is)
 
-pub captures_at-change : (h : ℕ) (number : ℕ) (old new : Option Place) (trail : List Change) (captures : Captures) → slice_get captures number ≡ Some old → h ≤ length trail → captures_at h (record { number = number; old = old } ∷ trail) (slice_set captures number new) ≡ captures_at h trail captures
+pub captures_at-change : (h : ℕ) (number : ℕ) (old new : Option Place) (trail : List Change) (captures : Captures) →
+    slice_get captures number ≡ Some old → h ≤ length trail →
+    captures_at h (record { number = number; old = old } ∷ trail) (slice_set captures number new) ≡ captures_at h trail captures
 captures_at-change h number old new trail captures is low =
     let e : suc (length trail) - h ≡ suc (length trail - h) = omega arith in
     rw e (ap (λ (now : Captures). undone (take (length trail - h) trail) now) (restored captures number old new is))
@@ -73,12 +78,14 @@ same_number n = eq-eqb n n refl
 other_number : (n m : ℕ) → n < m → (n == m) ≡ false
 other_number n m h = grind (arith)
 
-pub chain-older : (lists : NodeLists) (cell : Cell) (cells : List Cell) (n : ℕ) → n ≤ length cells → chain lists (cell ∷ cells) n ≡ chain lists cells n
+pub chain-older : (lists : NodeLists) (cell : Cell) (cells : List Cell) (n : ℕ) → n ≤ length cells →
+    chain lists (cell ∷ cells) n ≡ chain lists cells n
 chain-older lists (Nodes rest) cells n h = rw (other_number n (suc (length cells)) (omega arith)) refl
 chain-older lists (GroupEnd group from rest) cells n h = rw (other_number n (suc (length cells)) (omega arith)) refl
 chain-older lists (Iteration repeat count begun rest) cells n h = rw (other_number n (suc (length cells)) (omega arith)) refl
 
-pub chain-newest : (lists : NodeLists) (cell : Cell) (cells : List Cell) (n : ℕ) → n ≡ suc (length cells) → chain lists (cell ∷ cells) n ≡ cell_todo lists cells cell
+pub chain-newest : (lists : NodeLists) (cell : Cell) (cells : List Cell) (n : ℕ) → n ≡ suc (length cells) →
+    chain lists (cell ∷ cells) n ≡ cell_todo lists cells cell
 chain-newest lists (Nodes rest) cells n e = rw (e, same_number (suc (length cells))) refl
 chain-newest lists (GroupEnd group from rest) cells n e = rw (e, same_number (suc (length cells))) refl
 chain-newest lists (Iteration repeat count begun rest) cells n e = rw (e, same_number (suc (length cells))) refl
@@ -87,7 +94,8 @@ pub chain-zero : (lists : NodeLists) (cells : List Cell) → chain lists cells 0
 chain-zero lists [] = refl
 chain-zero lists (cell ∷ cells) = chain-older lists cell cells 0 (omega arith) ∙ chain-zero lists cells
 
-pub todo_of-older : (lists : NodeLists) (cell : Cell) (cells : List Cell) (rest : Rest) → rest.next ≤ length cells → todo_of lists (cell ∷ cells) rest ≡ todo_of lists cells rest
+pub todo_of-older : (lists : NodeLists) (cell : Cell) (cells : List Cell) (rest : Rest) → rest.next ≤ length cells →
+    todo_of lists (cell ∷ cells) rest ≡ todo_of lists cells rest
 todo_of-older lists cell cells rest h = rw (chain-older lists cell cells rest.next h) refl
 
 -- what is done with an end

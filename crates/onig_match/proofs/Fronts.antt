@@ -14,12 +14,16 @@ use Rattle.onig_match.specs.Sound.{IsRest, IsCell, IsSound}
 use Rattle.onig_match.proofs.Carries.{chain-zero}
 use Rattle.onig_match.proofs.Steps.{IsRead, cell_at}
 
-past : (lists : NodeLists) (cells : List Cell) (rest : Rest) (nodes : List PatNode) → nodes ≡ nodes_of lists rest.list → length nodes ≤ rest.index → todo_of lists cells rest ≡ chain lists cells rest.next
+past : (lists : NodeLists) (cells : List Cell) (rest : Rest) (nodes : List PatNode) →
+    nodes ≡ nodes_of lists rest.list → length nodes ≤ rest.index →
+    todo_of lists cells rest ≡ chain lists cells rest.next
 past lists cells rest nodes e h =
     let none : ◌≡◌ {A = List PatNode} (drop rest.index (nodes_of lists rest.list)) [] = drop_all rest.index (nodes_of lists rest.list) (rw (← e) h) in
     rw none refl
 
-pub exhausted : (on : Searched) (area : Area) (rest : Rest) (nodes : List PatNode) → nodes ≡ nodes_of on.pattern.now.lists rest.list → length nodes ≤ rest.index → rest.next ≡ 0 → todo_of on.pattern.now.lists area.cells.items rest ≡ []
+pub exhausted : (on : Searched) (area : Area) (rest : Rest) (nodes : List PatNode) →
+    nodes ≡ nodes_of on.pattern.now.lists rest.list → length nodes ≤ rest.index → rest.next ≡ 0 →
+    todo_of on.pattern.now.lists area.cells.items rest ≡ []
 exhausted on area rest nodes e h zero = past on.pattern.now.lists area.cells.items rest nodes e h ∙ rw zero (chain-zero on.pattern.now.lists area.cells.items)
 
 -- the rest goes on with a cell
@@ -30,7 +34,10 @@ pub record Passes (on : Searched) (area : Area) (rest : Rest) (cell : Cell) : Ty
   pub reach : rest.next ≤ length area.cells.items
   pub low : rest.next - 1 ≤ length area.cells.items
 
-pub passes : (on : Searched) (area : Area) (rest : Rest) (nodes : List PatNode) (cell : Cell) → IsSound on area → IsRest on.pattern.now (length area.cells.items) rest → nodes ≡ nodes_of on.pattern.now.lists rest.list → length nodes ≤ rest.index → (rest.next ≡ 0 → ⊥) → slice_get area.cells.items (length area.cells.items - rest.next) ≡ Some cell → Passes on area rest cell
+pub passes : (on : Searched) (area : Area) (rest : Rest) (nodes : List PatNode) (cell : Cell) → IsSound on area →
+    IsRest on.pattern.now (length area.cells.items) rest → nodes ≡ nodes_of on.pattern.now.lists rest.list →
+    length nodes ≤ rest.index → (rest.next ≡ 0 → ⊥) →
+    slice_get area.cells.items (length area.cells.items - rest.next) ≡ Some cell → Passes on area rest cell
 passes on area rest nodes cell sound inside e h some read =
     let reach : rest.next ≤ length area.cells.items = inside.next in
     let above : 0 < rest.next = omega (arith, some) in
@@ -41,5 +48,5 @@ passes on area rest nodes cell sound inside e h some read =
       is = stands.is;
       above = above;
       reach = reach;
-      low = omega arith
+      low = omega arith;
     }

@@ -33,7 +33,8 @@ use Rattle.onig_match.proofs.VisitCounts.{goes-none, goes-act}
 
 -- the nodes of a list
 
-pub AreNodes-get : (n groups : ℕ) (nodes : List PatNode) (k : ℕ) (node : PatNode) → AreNodes n groups nodes → slice_get nodes k ≡ Some node → IsNode n groups node
+pub AreNodes-get : (n groups : ℕ) (nodes : List PatNode) (k : ℕ) (node : PatNode) → AreNodes n groups nodes →
+    slice_get nodes k ≡ Some node → IsNode n groups node
 AreNodes-get n groups [] k node are e = cc
 AreNodes-get n groups (x ∷ xs) zero node are e = let same : x ≡ node = cc in subst (λ (v : PatNode). IsNode n groups v) same are.0
 AreNodes-get n groups (x ∷ xs) (suc k) node are e = AreNodes-get n groups xs k node are.1 e
@@ -59,12 +60,15 @@ no_ids (Behind arms wanted) not_it = refl
 no_ids (Atomic body) not_it = refl
 no_ids (Back number fold) not_it = refl
 
-pub ids_elsewhere : (lists : NodeLists) (nodes : List PatNode) (at : NodeAt) (node : PatNode) → nodes ≡ nodes_of lists at.list → at.index < length nodes → node ≡ get_or nodes at.index node → ((ids : List ListId) → node ≡ Choice ids → ⊥) → ids_at lists at ≡ []
+pub ids_elsewhere : (lists : NodeLists) (nodes : List PatNode) (at : NodeAt) (node : PatNode) →
+    nodes ≡ nodes_of lists at.list → at.index < length nodes → node ≡ get_or nodes at.index node →
+    ((ids : List ListId) → node ≡ Choice ids → ⊥) → ids_at lists at ≡ []
 ids_elsewhere lists nodes at node e low read not_it =
     let there : slice_get nodes at.index ≡ Some node = slice_get_read nodes (length nodes) at.index node refl low read in
     rw (← e, there) (no_ids node not_it)
 
-no_arms : (node : PatNode) → ((arms : List Arm) (wanted : Bool) → node ≡ Behind arms wanted → ⊥) → arms_in (Some node) ≡ []
+no_arms : (node : PatNode) → ((arms : List Arm) (wanted : Bool) → node ≡ Behind arms wanted → ⊥) →
+    arms_in (Some node) ≡ []
 no_arms (One set) not_it = refl
 no_arms (At anchor) not_it = refl
 no_arms (Choice ids) not_it = refl
@@ -75,23 +79,28 @@ no_arms (Behind arms wanted) not_it = absurd (not_it arms wanted refl)
 no_arms (Atomic body) not_it = refl
 no_arms (Back number fold) not_it = refl
 
-pub arms_elsewhere : (lists : NodeLists) (nodes : List PatNode) (at : NodeAt) (node : PatNode) → nodes ≡ nodes_of lists at.list → at.index < length nodes → node ≡ get_or nodes at.index node → ((arms : List Arm) (wanted : Bool) → node ≡ Behind arms wanted → ⊥) → arms_at lists at ≡ []
+pub arms_elsewhere : (lists : NodeLists) (nodes : List PatNode) (at : NodeAt) (node : PatNode) →
+    nodes ≡ nodes_of lists at.list → at.index < length nodes → node ≡ get_or nodes at.index node →
+    ((arms : List Arm) (wanted : Bool) → node ≡ Behind arms wanted → ⊥) → arms_at lists at ≡ []
 arms_elsewhere lists nodes at node e low read not_it =
     let there : slice_get nodes at.index ≡ Some node = slice_get_read nodes (length nodes) at.index node refl low read in
     rw (← e, there) (no_arms node not_it)
 
 -- single characters, anchors and back references
 
-pub here_behind : (on : Searched) (area : Area) (here : Rest) (at : ℕ) → IsHere on area here at → IsHere on area (behind_node here) at
+pub here_behind : (on : Searched) (area : Area) (here : Rest) (at : ℕ) → IsHere on area here at →
+    IsHere on area (behind_node here) at
 here_behind on area here at is = record {
   sound = is.sound;
   room = is.room;
   inside = record { list = is.inside.list; next = is.inside.next };
   there = is.there;
-  short = is.short
+  short = is.short;
 }
 
-lead_where : (on : Searched) (old : Area) (first : Todo) (b : Bool) (rest : Rest) (at to : ℕ) → IsHere on old rest at → (b ≡ true → to ≤ length on.text.now) → ((left : ℕ) → where_holds b (goes (subject on)) (todo_of on.pattern.now.lists old.cells.items rest) to old.captures.items left ≡ act (subject on) (goes (subject on)) first (todo_of on.pattern.now.lists old.cells.items rest) at old.captures.items left) → Leads on 1 old (acted on old first rest at) old (step_where b rest to)
+lead_where : (on : Searched) (old : Area) (first : Todo) (b : Bool) (rest : Rest) (at to : ℕ) →
+    IsHere on old rest at → (b ≡ true → to ≤ length on.text.now) → ((left : ℕ) →
+    where_holds b (goes (subject on)) (todo_of on.pattern.now.lists old.cells.items rest) to old.captures.items left ≡ act (subject on) (goes (subject on)) first (todo_of on.pattern.now.lists old.cells.items rest) at old.captures.items left) → Leads on 1 old (acted on old first rest at) old (step_where b rest to)
 lead_where on old first true rest at to here low same =
     lead_added on old old (acted on old first rest at) (Go (record { rest = rest; at = to })) (AddsCell-none on old here.sound) (here.inside, low refl)
     (λ left. ap (λ (ran : Ran). carried (subject on) old ran) (same left))
@@ -104,12 +113,16 @@ is_char_within p [] at e = cc
 is_char_within p (c ∷ text) zero e = omega arith
 is_char_within p (c ∷ text) (suc at) e = omega (arith, is_char_within p text at e)
 
-pub lead_one : (on : Searched) (old : Area) (node : PatNode) (here : Rest) (at : ℕ) (set : List CharRange) → IsHere on old here at → node ≡ One set → Leads on 1 old (acted on old (Node node) (behind_node here) at) old (step_where (is_char (in_set set) (slice_get on.text.now at)) (behind_node here) (at + 1))
+pub lead_one : (on : Searched) (old : Area) (node : PatNode) (here : Rest) (at : ℕ) (set : List CharRange) →
+    IsHere on old here at → node ≡ One set →
+    Leads on 1 old (acted on old (Node node) (behind_node here) at) old (step_where (is_char (in_set set) (slice_get on.text.now at)) (behind_node here) (at + 1))
 lead_one on old node here at set is e =
     rw e (lead_where on old (Node (One set)) (is_char (in_set set) (slice_get on.text.now at)) (behind_node here) at (at + 1) (here_behind on old here at is)
     (is_char_within (in_set set) on.text.now at) (λ left. refl))
 
-pub lead_anchor : (on : Searched) (old : Area) (node : PatNode) (here : Rest) (at : ℕ) (anchor : Anchor) → IsHere on old here at → node ≡ At anchor → Leads on 1 old (acted on old (Node node) (behind_node here) at) old (step_where (holds_at anchor (subject on) at) (behind_node here) at)
+pub lead_anchor : (on : Searched) (old : Area) (node : PatNode) (here : Rest) (at : ℕ) (anchor : Anchor) →
+    IsHere on old here at → node ≡ At anchor →
+    Leads on 1 old (acted on old (Node node) (behind_node here) at) old (step_where (holds_at anchor (subject on) at) (behind_node here) at)
 lead_anchor on old node here at anchor is e =
     rw e (lead_where on old (Node (At anchor)) (holds_at anchor (subject on) at) (behind_node here) at at (here_behind on old here at is)
     (λ _. is.there) (λ left. refl))
@@ -118,7 +131,8 @@ length-folded : (fold : Bool) (cs : List ℕ) → length (folded fold cs) ≡ le
 length-folded true cs = length-map cs to_ascii_lowercase
 length-folded false cs = refl
 
-stands_within : (fold : Bool) (text : List ℕ) (taken : Place) (at : ℕ) → taken.to ≤ length text → at ≤ length text → stands_again fold text taken at ≡ true → at + (taken.to - taken.from) ≤ length text
+stands_within : (fold : Bool) (text : List ℕ) (taken : Place) (at : ℕ) → taken.to ≤ length text → at ≤ length text →
+    stands_again fold text taken at ≡ true → at + (taken.to - taken.from) ≤ length text
 stands_within fold text taken at low there stands =
     let here : length (folded fold (drop at text)) ≡ length text - at = length-folded fold (drop at text) ∙ length-drop at text in
     let many : length (folded fold (slice_range text taken.from taken.to)) ≡ length (slice_range text taken.from taken.to) = length-folded fold (slice_range text taken.from taken.to) in
@@ -142,27 +156,34 @@ lead_back on old node here at number fold taken is e there within =
 -- a visit
 
 -- a visit with nothing left to match
-pub lead_end : (on : Searched) (old : Area) (point : Point) → IsHere on old point.rest point.at → todo_of on.pattern.now.lists old.cells.items point.rest ≡ [] → Leads on 1 old (λ left. means (subject on) old (Go point) (suc left)) old (Found point.at)
+pub lead_end : (on : Searched) (old : Area) (point : Point) → IsHere on old point.rest point.at →
+    todo_of on.pattern.now.lists old.cells.items point.rest ≡ [] →
+    Leads on 1 old (λ left. means (subject on) old (Go point) (suc left)) old (Found point.at)
 lead_end on old point here none =
     lead_added on old old (λ left. means (subject on) old (Go point) (suc left)) (Found point.at) (AddsCell-none on old here.sound) here.there
     (λ left. rw none (ap (λ (ran : Ran). carried (subject on) old ran) (sym (goes-none (subject on) point.at old.captures.items left))))
 
 -- a visit where something is left to match
-pub lead_visit : (on : Searched) (old new : Area) (point : Point) (first : Todo) (rest : Rest) (result : Step) → todo_of on.pattern.now.lists old.cells.items point.rest ≡ first ∷ todo_of on.pattern.now.lists old.cells.items rest → Leads on 1 old (acted on old first rest point.at) new result → Leads on 1 old (λ left. means (subject on) old (Go point) (suc left)) new result
+pub lead_visit : (on : Searched) (old new : Area) (point : Point) (first : Todo) (rest : Rest) (result : Step) →
+    todo_of on.pattern.now.lists old.cells.items point.rest ≡ first ∷ todo_of on.pattern.now.lists old.cells.items rest → Leads on 1 old (acted on old first rest point.at) new result → Leads on 1 old (λ left. means (subject on) old (Go point) (suc left)) new result
 lead_visit on old new point first rest result todo leads = record {
   ends = λ left. leads.ends left ∙ rw todo (ap (λ (ran : Ran). carried (subject on) old ran)
-    (sym (goes-act (subject on) first (todo_of on.pattern.now.lists old.cells.items rest) point.at old.captures.items left)));
+      (sym (goes-act (subject on) first (todo_of on.pattern.now.lists old.cells.items rest) point.at old.captures.items left)));
   sound = leads.sound;
   step = leads.step;
   room = leads.room;
   rooms = leads.rooms;
-  falls = leads.falls
+  falls = leads.falls;
 }
 
-pub node_there : (lists : NodeLists) (nodes : List PatNode) (here : Rest) (node : PatNode) → nodes ≡ nodes_of lists here.list → here.index < length (nodes_of lists here.list) → node ≡ get_or nodes here.index node → slice_get (nodes_of lists here.list) here.index ≡ Some node
+pub node_there : (lists : NodeLists) (nodes : List PatNode) (here : Rest) (node : PatNode) →
+    nodes ≡ nodes_of lists here.list → here.index < length (nodes_of lists here.list) →
+    node ≡ get_or nodes here.index node → slice_get (nodes_of lists here.list) here.index ≡ Some node
 node_there lists nodes here node e low read = slice_get_read (nodes_of lists here.list) (length (nodes_of lists here.list)) here.index node refl low (rw e at read)
 
-pub node_todo : (lists : NodeLists) (cells : List Cell) (here : Rest) (node : PatNode) → slice_get (nodes_of lists here.list) here.index ≡ Some node → todo_of lists cells here ≡ Node node ∷ todo_of lists cells (behind_node here)
+pub node_todo : (lists : NodeLists) (cells : List Cell) (here : Rest) (node : PatNode) →
+    slice_get (nodes_of lists here.list) here.index ≡ Some node →
+    todo_of lists cells here ≡ Node node ∷ todo_of lists cells (behind_node here)
 node_todo lists cells here node there =
     let first : drop here.index (nodes_of lists here.list) ≡ node ∷ drop (here.index + 1) (nodes_of lists here.list) = drop_some (nodes_of lists here.list) here.index node there in
     rw first refl
@@ -172,7 +193,8 @@ AllArms-drop n zero arms all = all
 AllArms-drop n (suc k) [] all = tt
 AllArms-drop n (suc k) (arm ∷ arms) all = AllArms-drop n k arms all.1
 
-AllArms-either : (n : ℕ) (b : Bool) (arm : Arm) (arms : List Arm) → arm.body.0 < n → AllArms n arms → AllArms n (cond b (arm ∷ arms) arms)
+AllArms-either : (n : ℕ) (b : Bool) (arm : Arm) (arms : List Arm) → arm.body.0 < n → AllArms n arms →
+    AllArms n (cond b (arm ∷ arms) arms)
 AllArms-either n true arm arms low all = (low, all)
 AllArms-either n false arm arms low all = all
 
@@ -180,7 +202,8 @@ AllArms-filter : (n : ℕ) (p : Arm → Bool) (arms : List Arm) → AllArms n ar
 AllArms-filter n p [] all = tt
 AllArms-filter n p (arm ∷ arms) all = AllArms-either n (p arm) arm (filter p arms) all.0 (AllArms-filter n p arms all.1)
 
-found_inside : (n : ℕ) (arms : List Arm) (arm at : ℕ) (result : Option (ℕ × Arm)) → AllArms n arms → IsNextArm arms arm at result → IfSome result (λ found. found.1.body.0 < n)
+found_inside : (n : ℕ) (arms : List Arm) (arm at : ℕ) (result : Option (ℕ × Arm)) → AllArms n arms →
+    IsNextArm arms arm at result → IfSome result (λ found. found.1.body.0 < n)
 found_inside n arms arm at None all is = tt
 found_inside n arms arm at (Some found) all is =
     let chosen : AllArms n (filter (λ a. nat_le a.length at) (drop arm arms)) = AllArms-filter n (λ a. nat_le a.length at) (drop arm arms) (AllArms-drop n arm arms all) in

@@ -3,7 +3,8 @@ use Rattle.std.proofs.Common.{◌≡◌, ℕ, ◌+◌, ◌-◌, ◌<◌, ◌≤�
 use Rattle.std.proofs.lemmas.List.{reverse-append, length-reverse, length-drop, take-append-drop}
 use Rattle.std.proofs.Math.Seq.{drop-append_seam}
 
-pub reverse-take : {A : Type 0} (xs : List A) (h : ℕ) → reverse (take h xs) ≡ drop (length (reverse xs) - h) (reverse xs)
+pub reverse-take : {A : Type 0} (xs : List A) (h : ℕ) →
+    reverse (take h xs) ≡ drop (length (reverse xs) - h) (reverse xs)
 reverse-take xs h =
     let parts : reverse (take h xs ++ drop h xs) ≡ reverse (drop h xs) ++ reverse (take h xs) = reverse-append (take h xs) (drop h xs) in
     let whole : reverse xs ≡ reverse (drop h xs) ++ reverse (take h xs) = sym (ap reverse (take-append-drop h xs)) ∙ parts in

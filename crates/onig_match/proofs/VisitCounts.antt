@@ -23,17 +23,20 @@ record Lowers (go : Going) : Type 0 where
 record Agrees (go other : Going) (most : ℕ) : Type 0 where
   same : (todo : List Todo) (at : ℕ) (captures : Captures) (left : ℕ) → left ≤ most → go todo at captures left ≡ other todo at captures left
 
-or_else-lowers : (ran : Ran) (next : ℕ → Ran) (most : ℕ) → left_of ran ≤ most → ((left : ℕ) → left_of (next left) ≤ left) → left_of (or_else ran next) ≤ most
+or_else-lowers : (ran : Ran) (next : ℕ → Ran) (most : ℕ) → left_of ran ≤ most → ((left : ℕ) →
+    left_of (next left) ≤ left) → left_of (or_else ran next) ≤ most
 or_else-lowers (Hit at captures left) next most h lower = h
 or_else-lowers (Miss left) next most h lower = omega (arith, lower left)
 or_else-lowers Spent next most h lower = omega arith
 
-or_else-same : (ran other : Ran) (next next' : ℕ → Ran) (most : ℕ) → ran ≡ other → left_of ran ≤ most → ((left : ℕ) → left ≤ most → next left ≡ next' left) → or_else ran next ≡ or_else other next'
+or_else-same : (ran other : Ran) (next next' : ℕ → Ran) (most : ℕ) → ran ≡ other → left_of ran ≤ most →
+    ((left : ℕ) → left ≤ most → next left ≡ next' left) → or_else ran next ≡ or_else other next'
 or_else-same (Hit at captures left) other next next' most e h same = rw (← e) refl
 or_else-same (Miss left) other next next' most e h same = rw (← e) (same left h)
 or_else-same Spent other next next' most e h same = rw (← e) refl
 
-where_holds-lowers : (b : Bool) (go : Going) (todo : List Todo) (at : ℕ) (captures : Captures) (left : ℕ) → Lowers go → left_of (where_holds b go todo at captures left) ≤ left
+where_holds-lowers : (b : Bool) (go : Going) (todo : List Todo) (at : ℕ) (captures : Captures) (left : ℕ) →
+    Lowers go → left_of (where_holds b go todo at captures left) ≤ left
 where_holds-lowers true go todo at captures left l = l.lowers todo at captures left
 where_holds-lowers false go todo at captures left l = omega arith
 
@@ -41,20 +44,24 @@ where_holds-same : (b : Bool) (go other : Going) (most : ℕ) (todo : List Todo)
 where_holds-same true go other most todo at captures left a h = a.same todo at captures left h
 where_holds-same false go other most todo at captures left a h = refl
 
-tries-lowers : (go : Going) (ways : List (List Todo)) (at : ℕ) (captures : Captures) (left : ℕ) → Lowers go → left_of (tries go ways at captures left) ≤ left
+tries-lowers : (go : Going) (ways : List (List Todo)) (at : ℕ) (captures : Captures) (left : ℕ) → Lowers go →
+    left_of (tries go ways at captures left) ≤ left
 tries-lowers go [] at captures left l = omega arith
 tries-lowers go (todo ∷ ways) at captures left l =
     or_else-lowers (go todo at captures left) (λ rest. tries go ways at captures rest) left (l.lowers todo at captures left)
     (λ rest. tries-lowers go ways at captures rest l)
 
-tries-same : (go other : Going) (most : ℕ) (ways : List (List Todo)) (at : ℕ) (captures : Captures) (left : ℕ) → Agrees go other most → Lowers go → left ≤ most → tries go ways at captures left ≡ tries other ways at captures left
+tries-same : (go other : Going) (most : ℕ) (ways : List (List Todo)) (at : ℕ) (captures : Captures) (left : ℕ) →
+    Agrees go other most → Lowers go → left ≤ most →
+    tries go ways at captures left ≡ tries other ways at captures left
 tries-same go other most [] at captures left a l h = refl
 tries-same go other most (todo ∷ ways) at captures left a l h =
     or_else-same (go todo at captures left) (other todo at captures left) (λ rest. tries go ways at captures rest) (λ rest. tries other ways at captures rest) most
     (a.same todo at captures left h) (omega (arith, l.lowers todo at captures left))
     (λ rest k. tries-same go other most ways at captures rest a l k)
 
-arms_run-lowers : (s : Subject) (go : Going) (arms : List Arm) (at : ℕ) (captures : Captures) (left : ℕ) → Lowers go → left_of (arms_run s go arms at captures left) ≤ left
+arms_run-lowers : (s : Subject) (go : Going) (arms : List Arm) (at : ℕ) (captures : Captures) (left : ℕ) →
+    Lowers go → left_of (arms_run s go arms at captures left) ≤ left
 arms_run-lowers s go [] at captures left l = omega arith
 arms_run-lowers s go (arm ∷ arms) at captures left l =
     or_else-lowers (where_holds (nat_le arm.length at) go (before s.lists arm.body []) (at - arm.length) captures left)
@@ -88,12 +95,14 @@ looked-same false (Hit end seen left) other_ran go other most rest at captures a
 looked-same false (Miss left) other_ran go other most rest at captures a e h = rw (← e) (a.same rest at captures left h)
 looked-same false Spent other_ran go other most rest at captures a e h = rw (← e) refl
 
-kept_whole-lowers : (ran : Ran) (go : Going) (rest : List Todo) (most : ℕ) → Lowers go → left_of ran ≤ most → left_of (kept_whole ran go rest) ≤ most
+kept_whole-lowers : (ran : Ran) (go : Going) (rest : List Todo) (most : ℕ) → Lowers go → left_of ran ≤ most →
+    left_of (kept_whole ran go rest) ≤ most
 kept_whole-lowers (Hit end seen left) go rest most l h = omega (arith, l.lowers rest end seen left)
 kept_whole-lowers (Miss left) go rest most l h = h
 kept_whole-lowers Spent go rest most l h = omega arith
 
-kept_whole-same : (ran other_ran : Ran) (go other : Going) (most : ℕ) (rest : List Todo) → Agrees go other most → ran ≡ other_ran → left_of ran ≤ most → kept_whole ran go rest ≡ kept_whole other_ran other rest
+kept_whole-same : (ran other_ran : Ran) (go other : Going) (most : ℕ) (rest : List Todo) → Agrees go other most →
+    ran ≡ other_ran → left_of ran ≤ most → kept_whole ran go rest ≡ kept_whole other_ran other rest
 kept_whole-same (Hit end seen left) other_ran go other most rest a e h = rw (← e) (a.same rest end seen left h)
 kept_whole-same (Miss left) other_ran go other most rest a e h = rw (← e) refl
 kept_whole-same Spent other_ran go other most rest a e h = rw (← e) refl
@@ -145,7 +154,8 @@ act-same s go other (Close number from) rest at captures left a l =
     a.same rest at (slice_set captures number (Some (record { from = from; to = at }))) left (omega arith)
 act-same s go other (Again body least most greedy count begun) rest at captures left a l = tries-same go other left _ at captures left a l (omega arith)
 
-look-lowers : (s : Subject) (go : Going) (todo : List Todo) (at : ℕ) (captures : Captures) (left : ℕ) → Lowers go → left_of (look s go todo at captures left) ≤ left
+look-lowers : (s : Subject) (go : Going) (todo : List Todo) (at : ℕ) (captures : Captures) (left : ℕ) → Lowers go →
+    left_of (look s go todo at captures left) ≤ left
 look-lowers s go todo at captures zero l = omega arith
 look-lowers s go [] at captures (suc left) l = omega arith
 look-lowers s go (first ∷ rest) at captures (suc left) l = omega (arith, act-lowers s go first rest at captures left l)
@@ -155,12 +165,14 @@ unfolding go_on
 go_on-lowers s zero = record { lowers = λ todo at captures left. omega arith }
 go_on-lowers s (suc fuel) = record { lowers = λ todo at captures left. look-lowers s (go_on s fuel) todo at captures left (go_on-lowers s fuel) }
 
-go_on-zero : (s : Subject) (fuel : ℕ) (todo : List Todo) (at : ℕ) (captures : Captures) → go_on s fuel todo at captures zero ≡ Spent
+go_on-zero : (s : Subject) (fuel : ℕ) (todo : List Todo) (at : ℕ) (captures : Captures) →
+    go_on s fuel todo at captures zero ≡ Spent
 unfolding go_on
 go_on-zero s zero todo at captures = refl
 go_on-zero s (suc fuel) todo at captures = refl
 
-pub go_on-same : (s : Subject) (f g : ℕ) (todo : List Todo) (at : ℕ) (captures : Captures) (left : ℕ) → left ≤ f → left ≤ g → go_on s f todo at captures left ≡ go_on s g todo at captures left
+pub go_on-same : (s : Subject) (f g : ℕ) (todo : List Todo) (at : ℕ) (captures : Captures) (left : ℕ) → left ≤ f →
+    left ≤ g → go_on s f todo at captures left ≡ go_on s g todo at captures left
 unfolding go_on
 go_on-same s f g todo at captures zero h k = go_on-zero s f todo at captures ∙ sym (go_on-zero s g todo at captures)
 go_on-same s zero g todo at captures (suc left) h k = absurd (omega arith)
@@ -177,11 +189,13 @@ pub goes-zero : (s : Subject) (todo : List Todo) (at : ℕ) (captures : Captures
 unfolding goes
 goes-zero s todo at captures = go_on-zero s zero todo at captures
 
-pub goes-none : (s : Subject) (at : ℕ) (captures : Captures) (left : ℕ) → goes s [] at captures (suc left) ≡ Hit at captures left
+pub goes-none : (s : Subject) (at : ℕ) (captures : Captures) (left : ℕ) →
+    goes s [] at captures (suc left) ≡ Hit at captures left
 unfolding goes go_on
 goes-none s at captures left = refl
 
-pub goes-act : (s : Subject) (first : Todo) (rest : List Todo) (at : ℕ) (captures : Captures) (left : ℕ) → goes s (first ∷ rest) at captures (suc left) ≡ act s (goes s) first rest at captures left
+pub goes-act : (s : Subject) (first : Todo) (rest : List Todo) (at : ℕ) (captures : Captures) (left : ℕ) →
+    goes s (first ∷ rest) at captures (suc left) ≡ act s (goes s) first rest at captures left
 unfolding goes go_on
 goes-act s first rest at captures left =
     act-same s (go_on s left) (goes s) first rest at captures left

@@ -48,10 +48,12 @@ chain lists [] number = []
 chain lists (Nodes rest ∷ older) number =
     pick (number == suc (length older)) (nodes_from lists rest ++ chain lists older rest.next) (chain lists older number)
 chain lists (GroupEnd group from rest ∷ older) number =
-    pick (number == suc (length older)) (Close group from ∷ (nodes_from lists rest ++ chain lists older rest.next)) (chain lists older number)
+    pick (number == suc (length older)) (Close group from ∷ (nodes_from lists rest ++ chain lists older rest.next))
+    (chain lists older number)
 chain lists (Iteration repeat count begun rest ∷ older) number =
     pick (number == suc (length older))
-    (Again repeat.body repeat.least repeat.most repeat.greedy count begun ∷ (nodes_from lists rest ++ chain lists older rest.next))
+    (Again repeat.body repeat.least repeat.most repeat.greedy count begun
+    ∷ (nodes_from lists rest ++ chain lists older rest.next))
     (chain lists older number)
 
 abbrev pub todo_of : NodeLists → List Cell → Rest → List Todo
@@ -100,8 +102,10 @@ abbrev pub resumed : Subject → List Cell → Captures → Resume → ℕ → R
 resumed s cells captures (Other rest) at ran = or_else ran (λ left. goes s (todo_of s.lists cells rest) at captures left)
 resumed s cells captures (Alternatives node way next) at ran =
     or_else ran
-    (λ left. tries (goes s) (map (λ id. before s.lists id (chain s.lists cells next)) (drop way (ids_at s.lists node))) at captures left)
-resumed s cells captures (AfterAhead wanted rest) at ran = looked wanted ran (goes s) (todo_of s.lists cells rest) at captures
+    (λ left. tries (goes s) (map (λ id. before s.lists id (chain s.lists cells next)) (drop way (ids_at s.lists node))) at
+    captures left)
+resumed s cells captures (AfterAhead wanted rest) at ran =
+    looked wanted ran (goes s) (todo_of s.lists cells rest) at captures
 resumed s cells captures (AfterBehind node arm wanted rest) at ran =
     looked wanted (or_else ran (λ left. arms_run s (goes s) (drop arm (arms_at s.lists node)) at captures left)) (goes s)
     (todo_of s.lists cells rest) at captures
@@ -133,7 +137,8 @@ with_entry area entry = record area { entries = record { room = area.entries.roo
 abbrev pub acted : Searched → Area → Todo → Rest → ℕ → ℕ → Ran
 acted on area first rest at left =
     carried (subject on) area
-    (act (subject on) (goes (subject on)) first (todo_of on.pattern.now.lists area.cells.items rest) at area.captures.items left)
+    (act (subject on) (goes (subject on)) first (todo_of on.pattern.now.lists area.cells.items rest) at
+    area.captures.items left)
 
 -- going on where something holds
 abbrev pub step_where : Bool → Rest → ℕ → Step

@@ -72,13 +72,15 @@ AreTaken chars (taken ∷ captures) = IsTaken chars taken × AreTaken chars capt
 
 abbrev pub AreChanges : Tree → ℕ → List Change → Type 0
 AreChanges tree chars [] = Unit {0}
-AreChanges tree chars (change ∷ older) = (change.number ≤ tree.groups) × IsTaken chars change.old × AreChanges tree chars older
+AreChanges tree chars (change ∷ older) =
+    (change.number ≤ tree.groups) × IsTaken chars change.old × AreChanges tree chars older
 
 pub record IsSound (on : Searched) (area : Area) : Type 0 where
   pub groups : length area.captures.items ≡ on.pattern.now.groups + 1
   pub captures : AreTaken (length on.text.now) area.captures.items
   pub cells : AreCells on.pattern.now (length on.text.now) area.cells.items
-  pub entries : AreEntries on.pattern.now (length on.text.now) (length area.cells.items) (length area.trail.items) area.entries.items
+  pub entries :
+      AreEntries on.pattern.now (length on.text.now) (length area.cells.items) (length area.trail.items) area.entries.items
   pub trail : AreChanges on.pattern.now (length on.text.now) area.trail.items
 
 abbrev pub IsStep : Searched → ℕ → Step → Type 0
@@ -108,7 +110,8 @@ pub record IsHere (on : Searched) (area : Area) (rest : Rest) (at : ℕ) : Type 
   pub short : length on.text.now < 2 ^ 31
 
 -- A step that takes room for so many visits, and from which the attempt ends as told.
-pub record Leads (on : Searched) (visits : ℕ) (old : Area) (answer : ℕ → Ran) (new : Area) (result : Step) : Type 0 where
+pub record Leads (on : Searched) (visits : ℕ) (old : Area) (answer : ℕ → Ran) (new : Area) (result : Step) :
+    Type 0 where
   pub ends : (left : ℕ) → means (subject on) new result left ≡ answer left
   pub sound : IsSound on new
   pub step : IsStep on (length new.cells.items) result
@@ -126,17 +129,23 @@ pub record AddsCell (on : Searched) (old new : Area) : Type 0 where
   pub room : new.cells.room ≡ old.cells.room
   pub grows : length old.cells.items ≤ length new.cells.items
   pub at_most : length new.cells.items ≤ length old.cells.items + 1
-  pub stands : (lists : NodeLists) (rest : Rest) → IsRest on.pattern.now (length old.cells.items) rest → todo_of lists new.cells.items rest ≡ todo_of lists old.cells.items rest
+  pub stands : (lists : NodeLists) (rest : Rest) → IsRest on.pattern.now (length old.cells.items) rest →
+      todo_of lists new.cells.items rest ≡ todo_of lists old.cells.items rest
 
 -- a group takes something, and what it took before is kept
 pub record Takes (old new : Area) (number : ℕ) (taken : Option Place) : Type 0 where
   pub before : Option Place
   pub was : slice_get old.captures.items number ≡ Some before
-  pub now : new ≡ record old { captures = record old.captures { items = slice_set old.captures.items number taken }; trail = record old.trail { items = record { number = number; old = before } ∷ old.trail.items } }
+  pub now :
+      new ≡ record old {
+        captures = record old.captures { items = slice_set old.captures.items number taken };
+        trail = record old.trail { items = record { number = number; old = before } ∷ old.trail.items };
+      }
 
 -- the next of the arms, from a number on, that isn't longer than a place
 abbrev pub IsNextArm : List Arm → ℕ → ℕ → Option (ℕ × Arm) → Type 0
 IsNextArm arms arm at None = filter (λ a. nat_le a.length at) (drop arm arms) ≡ []
 IsNextArm arms arm at (Some found) =
-    (filter (λ a. nat_le a.length at) (drop arm arms) ≡ found.1 ∷ filter (λ a. nat_le a.length at) (drop (found.0 + 1) arms))
+    (filter (λ a. nat_le a.length at) (drop arm arms)
+    ≡ found.1 ∷ filter (λ a. nat_le a.length at) (drop (found.0 + 1) arms))
     × (found.1.length ≤ at) × (found.0 < length arms)

@@ -45,7 +45,11 @@ fn is_edge(text: &[char], at: u32) -> bool
     ensures { result ≡ is_word_edge (is_char is_word (char_before text.now at)) (is_char is_word (slice_get text.now at)) }
 {
     let next = is_word_at(char_at(text, at));
-    if is_word_at(char_behind(text, at)) { !next } else { next }
+    if is_word_at(char_behind(text, at)) {
+        !next
+    } else {
+        next
+    }
 }
 
 fn is_mark(anchor: Option<u32>, at: u32) -> bool
@@ -60,7 +64,8 @@ fn is_mark(anchor: Option<u32>, at: u32) -> bool
 /// Whether an anchor holds at a place.
 pub(crate) fn holds(anchor: Anchor, text: &[char], at: u32, flags: Flags) -> bool
     requires { at ≤ length text.now }
-    ensures { (lists : NodeLists) → result ≡ holds_at anchor (record { lists = lists; text = text.now; flags = flags }) at }
+    ensures { (lists : NodeLists) →
+        result ≡ holds_at anchor (record { lists = lists; text = text.now; flags = flags }) at }
 {
     let end = text.len();
     let place = at as usize;

@@ -112,8 +112,12 @@ impl Area {
     /// A place to go back to.
     pub(crate) fn enter(&mut self, resume: Resume, at: u32)
         requires { length self.old.entries.items < self.old.entries.room }
-        ensures { self.new ≡ with_entry self.old (record { resume = resume; at = at;
-            cells = length self.old.cells.items; trail = length self.old.trail.items }) }
+        ensures { self.new ≡ with_entry self.old (record {
+          resume = resume;
+          at = at;
+          cells = length self.old.cells.items;
+          trail = length self.old.trail.items;
+        }) }
     {
         let cells = self.cells.len();
         let trail = self.trail.len();
@@ -140,9 +144,12 @@ impl Area {
     pub(crate) fn rewind(&mut self, on: &Searched<'_>, cells: u32, trail: u32)
         requires sound { IsSound on.now self.old }
         ensures { self.new ≡ record self.old {
-            cells = record self.old.cells { items = kept cells self.old.cells.items };
-            trail = record self.old.trail { items = kept trail self.old.trail.items };
-            captures = record self.old.captures { items = captures_at trail self.old.trail.items self.old.captures.items } } }
+          cells = record self.old.cells { items = kept cells self.old.cells.items };
+          trail = record self.old.trail { items = kept trail self.old.trail.items };
+          captures = record self.old.captures {
+            items = captures_at trail self.old.trail.items self.old.captures.items;
+          };
+        } }
     {
         self.cells.cut(cells);
         while self.trail.len() > trail {

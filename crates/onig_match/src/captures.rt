@@ -21,7 +21,8 @@ impl Model for Captures {
 
     ghost view = { λ c. record { room = c.room; items = c.items.items } };
 
-    ghost invariant = { λ c. (length c.items.items ≤ c.room + 1) × (c.room + 1 ≤ vec_capacity c.items) × (c.room < 2 ^ 32) };
+    ghost invariant = { λ c.
+        (length c.items.items ≤ c.room + 1) × (c.room + 1 ≤ vec_capacity c.items) × (c.room < 2 ^ 32) };
 }
 
 impl Captures {

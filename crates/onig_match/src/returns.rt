@@ -107,9 +107,7 @@ impl Area {
                     self.enter(resume, at);
                     go(start_of(one.body, 0), at - one.length)
                 }
-                None => {
-                    if wanted { Step::Failed } else { go(rest, at) }
-                }
+                None => { if wanted { Step::Failed } else { go(rest, at) } }
             },
             Resume::AfterAtomic(_) => Step::Failed,
         }
@@ -121,17 +119,26 @@ impl Area {
         requires sound { IsSound on.now (with_entry self.old entry) }
         requires end { end ≤ length on.now.text.now }
         ensures { Leads on.now 0 (with_entry self.old entry)
-            (λ left. carried (subject on.now) (with_entry self.old entry) (Hit end self.old.captures.items left)) self.new result }
+            (λ left. carried (subject on.now) (with_entry self.old entry) (Hit end self.old.captures.items left))
+            self.new result }
     {
         self.cells.cut(entry.cells);
         match entry.resume {
             Resume::Other(_) => Step::Found(end),
             Resume::Alternatives { .. } => Step::Found(end),
             Resume::AfterAhead { wanted, rest } => {
-                if wanted { go(rest, entry.at) } else { Step::Failed }
+                if wanted {
+                    go(rest, entry.at)
+                } else {
+                    Step::Failed
+                }
             }
             Resume::AfterBehind { wanted, rest, .. } => {
-                if wanted { go(rest, entry.at) } else { Step::Failed }
+                if wanted {
+                    go(rest, entry.at)
+                } else {
+                    Step::Failed
+                }
             }
             Resume::AfterAtomic(rest) => go(rest, end),
         }

@@ -78,7 +78,14 @@ impl Area {
         Step::Failed
     }
 
-    fn visit_group(&mut self, on: &Searched<'_>, group: u32, body: ListId, rest: Rest, at: u32) -> Step
+    fn visit_group(
+        &mut self,
+        on: &Searched<'_>,
+        group: u32,
+        body: ListId,
+        rest: Rest,
+        at: u32,
+    ) -> Step
         requires here { IsHere on.now self.old rest at }
         requires node { IsNode (length on.now.pattern.now.lists) on.now.pattern.now.groups (Group group body) }
         ensures { Leads on.now 1 self.old (acted on.now self.old (Node (Group group body)) rest at) self.new result }
@@ -91,7 +98,14 @@ impl Area {
         go(start_of(body, self.cells.len()), at)
     }
 
-    fn visit_group_end(&mut self, on: &Searched<'_>, group: u32, from: u32, rest: Rest, at: u32) -> Step
+    fn visit_group_end(
+        &mut self,
+        on: &Searched<'_>,
+        group: u32,
+        from: u32,
+        rest: Rest,
+        at: u32,
+    ) -> Step
         requires here { IsHere on.now self.old rest at }
         requires group { group ≤ on.now.pattern.now.groups }
         requires from { from ≤ length on.now.text.now }
@@ -101,7 +115,14 @@ impl Area {
         go(rest, at)
     }
 
-    fn visit_ahead(&mut self, on: &Searched<'_>, body: ListId, wanted: bool, rest: Rest, at: u32) -> Step
+    fn visit_ahead(
+        &mut self,
+        on: &Searched<'_>,
+        body: ListId,
+        wanted: bool,
+        rest: Rest,
+        at: u32,
+    ) -> Step
         requires here { IsHere on.now self.old rest at }
         requires body { body.0 < length on.now.pattern.now.lists }
         ensures { Leads on.now 1 self.old (acted on.now self.old (Node (Ahead body wanted)) rest at) self.new result }
@@ -111,7 +132,14 @@ impl Area {
     }
 
     /// The arms are tried as at a miss, from the first on.
-    fn visit_behind(&mut self, on: &Searched<'_>, node: NodeAt, wanted: bool, rest: Rest, at: u32) -> Step
+    fn visit_behind(
+        &mut self,
+        on: &Searched<'_>,
+        node: NodeAt,
+        wanted: bool,
+        rest: Rest,
+        at: u32,
+    ) -> Step
         requires here { IsHere on.now self.old rest at }
         requires list { node.list.0 < length on.now.pattern.now.lists }
         ensures { Leads on.now 1 self.old
@@ -177,7 +205,8 @@ impl Area {
     /// One look at what is still to match.
     pub(crate) fn visit(&mut self, on: &Searched<'_>, point: Point) -> Step
         requires { IsHere on.now self.old point.rest point.at }
-        ensures { Leads on.now 1 self.old (λ left. means (subject on.now) self.old (Step.Go point) (suc left)) self.new result }
+        ensures { Leads on.now 1 self.old
+            (λ left. means (subject on.now) self.old (Step.Go point) (suc left)) self.new result }
     {
         match self.front(on, point.rest) {
             Front::AtEnd => Step::Found(point.at),

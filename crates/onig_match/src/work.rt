@@ -41,9 +41,12 @@ impl Model for Work {
 
 impl Area {
     fn new(alloc: Global, budget: u32, groups: u32) -> Result<Area, AllocError>
-        ensures { IfOk result (λ area. area ≡ record { captures = record { room = groups; items = [] };
-            cells = record { room = budget; items = [] }; entries = record { room = budget; items = [] };
-            trail = record { room = budget; items = [] } }) }
+        ensures { IfOk result (λ area. area ≡ record {
+          captures = record { room = groups; items = [] };
+          cells = record { room = budget; items = [] };
+          entries = record { room = budget; items = [] };
+          trail = record { room = budget; items = [] };
+        }) }
     {
         Ok(Area {
             captures: Captures::new(alloc, groups)?,
@@ -57,10 +60,11 @@ impl Area {
     fn reset(&mut self, groups: u32)
         requires { groups ≤ self.old.captures.room }
         ensures { self.new ≡ record {
-            captures = record { room = self.old.captures.room; items = replicate (groups + 1) None };
-            cells = record { room = self.old.cells.room; items = [] };
-            entries = record { room = self.old.entries.room; items = [] };
-            trail = record { room = self.old.trail.room; items = [] } } }
+          captures = record { room = self.old.captures.room; items = replicate (groups + 1) None };
+          cells = record { room = self.old.cells.room; items = [] };
+          entries = record { room = self.old.entries.room; items = [] };
+          trail = record { room = self.old.trail.room; items = [] };
+        } }
     {
         self.captures.reset(groups);
         self.cells.cut(0);
@@ -158,21 +162,17 @@ impl Work {
 }
 
 /// Whether a pattern matches at a place of a text. After a hit, `work` has its captures.
-pub fn attempt(
-    pattern: &Pattern,
-    work: &mut Work,
-    text: &[char],
-    at: u32,
-    flags: Flags,
-) -> Outcome
+pub fn attempt(pattern: &Pattern, work: &mut Work, text: &[char], at: u32, flags: Flags) -> Outcome
     requires text { length text.now < 2 ^ 31 }
     requires at { at ≤ length text.now }
     requires groups { pattern.now.groups ≤ work.old.room }
     ensures outcome { result ≡ outcome_of (attempt_of pattern.now text.now at flags work.old.budget) }
     ensures work { work.new ≡ record work.old {
-        hit = hit_after (attempt_of pattern.now text.now at flags work.old.budget) work.old.hit } }
+      hit = hit_after (attempt_of pattern.now text.now at flags work.old.budget) work.old.hit;
+    } }
     ensures groups { result ≡ Outcome.Hit → length work.new.hit ≡ pattern.now.groups + 1 }
-    ensures flat { IsTrue (is_flat pattern.now) → 2 * size_of pattern.now + 2 ≤ work.old.budget → result ≢ Outcome.Spent }
+    ensures flat { IsTrue (is_flat pattern.now) →
+        2 * size_of pattern.now + 2 ≤ work.old.budget → result ≢ Outcome.Spent }
 {
     let on = Searched {
         pattern,
@@ -182,9 +182,7 @@ pub fn attempt(
     work.area.reset(pattern.groups());
     match work.area.run(&on, at, work.budget) {
         End::Found(end) => {
-            work.area
-                .captures
-                .set(0, Some(Place { from: at, to: end }));
+            work.area.captures.set(0, Some(Place { from: at, to: end }));
             std::mem::swap(&mut work.hit, &mut work.area.captures);
             Outcome::Hit
         }

@@ -19,7 +19,7 @@ loop-rest-preserved c =
     passes c.args.on.now c.args.self.now c.loop-rest.rest c.list.result.now _ c.requires.sound c.loop-rest.invariant.inside c.list.ensures.nodes c.loop-rest-test.true c.if-rest-eq0.false c.in-Nodes.ensures in
     record {
       todo = sym p.todo ∙ c.loop-rest.invariant.todo;
-      inside = IsRest-widen c.args.on.now.pattern.now _ (length c.args.self.now.cells.items) c.in-Nodes.more p.is p.low
+      inside = IsRest-widen c.args.on.now.pattern.now _ (length c.args.self.now.cells.items) c.in-Nodes.more p.is p.low;
     }
 
 pub returns-in-GroupEnd-clause-todo : goal.returns-in-GroupEnd-clause-todo

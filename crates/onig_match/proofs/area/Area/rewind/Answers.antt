@@ -22,5 +22,5 @@ loop-self-preserved-in-Some c =
       captures_room = c.loop-self.invariant.captures_room;
       trail_room = (c.in-Some.ensures).1 ∙ c.loop-self.invariant.trail_room;
       cells = c.loop-self.invariant.cells;
-      entries = c.loop-self.invariant.entries
+      entries = c.loop-self.invariant.entries;
     })

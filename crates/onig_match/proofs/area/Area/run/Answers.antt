@@ -14,7 +14,7 @@ loop-step-init c =
       sound = c.requires.sound;
       step = rw c.start_of.ensures (record { list = c.top.ensures.is_there; next = omega arith }, c.requires.at);
       room = c.requires.room;
-      rooms = record { captures = refl; cells = refl; entries = refl; trail = refl }
+      rooms = record { captures = refl; cells = refl; entries = refl; trail = refl };
     }
 
 pub returns-then-left-eq0-clause-end : goal.returns-then-left-eq0-clause-end

@@ -3,7 +3,6 @@ use Rattle.pattern_defs.specs.Attempt.{before}
 use Rattle.onig_match.specs.Goes.{goes}
 use Rattle.onig_match.specs.Machine.{subject, means, rank}
 use Rattle.onig_match.specs.Sound.{IsSound, IsStep, HasRoom, SameRooms}
-
 use Rattle.onig_match.proofs.area.Area.run.Given as goal
 
 abbrev pub invariant-loop-step : goal.invariant-loop-step
