@@ -33,7 +33,7 @@ AllArms-widen a b (arm ∷ arms) h all = (let lt : arm.body.0 < a = all.0 in ome
 IsNode-widen : (a b groups : ℕ) (node : PatNode) → a ≤ b → IsNode a groups node → IsNode b groups node
 IsNode-widen a b groups (One set) h is = tt
 IsNode-widen a b groups (At anchor) h is = tt
-IsNode-widen a b groups (Choice ids) h is = AllIds-widen a b ids h is
+IsNode-widen a b groups (Choice ids) h is = (AllIds-widen a b ids h is.0, is.1)
 IsNode-widen a b groups (Group number body) h is = (is.0, is.1, let lt : body.0 < a = is.2 in omega arith)
 IsNode-widen a b groups (Repeat body least most greedy) h is = (is.0, let lt : body.0 < a = is.1 in omega arith)
 IsNode-widen a b groups (Ahead body wanted) h is = omega arith

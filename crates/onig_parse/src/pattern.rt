@@ -1,5 +1,5 @@
 ghost use Rattle.std.specs.Prelude.{◌≡◌, ◌<◌, ◌≤◌, length};
-ghost use Rattle.pattern_defs.specs.Patterns.{Tree, nodes_of, size_of, is_flat, AreNodes};
+ghost use Rattle.pattern_defs.specs.Patterns.{Tree, nodes_of, size_of, is_flat, AreNodes, AreLists};
 ghost use Rattle.onig_parse.specs.Parts.{part};
 
 use pattern_defs::{ListId, PatNode};
@@ -46,6 +46,7 @@ impl Pattern {
     pub fn top(&self) -> ListId
         ensures top { result ≡ self.now.top }
         ensures is_there { result.0 < length self.now.lists }
+        ensures names { AreLists 0 self.now.groups self.now.lists }
     {
         self.top
     }

@@ -24,6 +24,11 @@ abbrev pub AllIds : ℕ → List ListId → Type 0
 AllIds n [] = Unit {0}
 AllIds n (id ∷ ids) = (id.0 < n) × AllIds n ids
 
+-- the numbers rise, so that no list stands in two places
+abbrev pub RiseFrom : ℕ → List ListId → Type 0
+RiseFrom low [] = Unit {0}
+RiseFrom low (id ∷ ids) = (low ≤ id.0) × RiseFrom (id.0 + 1) ids
+
 abbrev pub AllArms : ℕ → List Arm → Type 0
 AllArms n [] = Unit {0}
 AllArms n (arm ∷ arms) = (arm.body.0 < n) × AllArms n arms
@@ -37,7 +42,7 @@ AreBounds least (Some most) = least ≤ most
 abbrev pub IsNode : ℕ → ℕ → PatNode → Type 0
 IsNode n groups (One set) = Unit {0}
 IsNode n groups (At anchor) = Unit {0}
-IsNode n groups (Choice ids) = AllIds n ids
+IsNode n groups (Choice ids) = AllIds n ids × RiseFrom 0 ids
 IsNode n groups (Group number body) = (0 < number) × (number ≤ groups) × (body.0 < n)
 IsNode n groups (Repeat body least most greedy) = AreBounds least most × (body.0 < n)
 IsNode n groups (Ahead body wanted) = body.0 < n

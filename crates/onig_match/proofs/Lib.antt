@@ -1,0 +1,11 @@
+pub mod Carries
+pub mod Ends
+pub mod Flat
+pub mod Fronts
+pub mod Lists
+pub mod NodeSteps
+pub mod PileLemmas
+pub mod ReturnSteps
+pub mod Steps
+pub mod VisitCounts
+pub mod VisitSteps

@@ -1,0 +1,66 @@
+use crate::cells::{NodeAt, Rest};
+use pattern_defs::Place;
+
+/// What a group took before it took something else.
+#[derive(Clone, Copy, Debug, PartialEq, Eq)]
+pub(crate) struct Change {
+    pub(crate) number: u32,
+    pub(crate) old: Option<Place>,
+}
+
+/// How an entry goes on with the end of what was tried above it.
+#[derive(Clone, Copy, Debug, PartialEq, Eq)]
+pub(crate) enum Resume {
+    /// Another way, to be tried at a miss.
+    Other(Rest),
+    /// The alternatives of a node from the number `way` on, each before the cell `next`.
+    Alternatives {
+        node: NodeAt,
+        way: usize,
+        next: u32,
+    },
+    AfterAhead {
+        wanted: bool,
+        rest: Rest,
+    },
+    /// The lookbehind of a node, with the arms from the number `arm` on still to be tried.
+    AfterBehind {
+        node: NodeAt,
+        arm: usize,
+        wanted: bool,
+        rest: Rest,
+    },
+    AfterAtomic(Rest),
+}
+
+/// A place to go back to: how to go on there, and how many cells and changes there were.
+#[derive(Clone, Copy, Debug, PartialEq, Eq)]
+pub(crate) struct Entry {
+    pub(crate) resume: Resume,
+    pub(crate) at: u32,
+    pub(crate) cells: u32,
+    pub(crate) trail: u32,
+}
+
+/// What is still to match, at a place.
+#[derive(Clone, Copy, Debug, PartialEq, Eq)]
+pub(crate) struct Point {
+    pub(crate) rest: Rest,
+    pub(crate) at: u32,
+}
+
+/// What is next: a visit, or an end of the list in hand.
+#[derive(Clone, Copy, Debug, PartialEq, Eq)]
+pub(crate) enum Step {
+    Go(Point),
+    Found(u32),
+    Failed,
+}
+
+/// How an attempt ends: at a place, nowhere, or by its budget.
+#[derive(Clone, Copy, Debug, PartialEq, Eq)]
+pub(crate) enum End {
+    Found(u32),
+    Failed,
+    Spent,
+}

@@ -1,0 +1,10 @@
+use onig_parse::Pattern;
+use pattern_defs::Flags;
+
+/// What an attempt is about.
+#[derive(Clone, Copy)]
+pub(crate) struct Searched<'a> {
+    pub(crate) pattern: &'a Pattern,
+    pub(crate) text: &'a [char],
+    pub(crate) flags: Flags,
+}
