@@ -9,7 +9,7 @@ use Rattle.char_sets.specs.declared.named.NamedSet.{NamedSet}
 use Rattle.syntax_defs.specs.declared.class_part.ClassPart.{ClassPart}
 use Rattle.syntax_defs.specs.declared.class_part.ClassPart.TheVariants as parts
 use Rattle.syntax_defs.specs.Reading.{Fault, Syntax, LeftOut, TooDeep, Read, ◌>>=◌}
-use Rattle.syntax_defs.specs.Escapes.{Escaped, Char, Set, Escape, signed, escape_at, named_bracket}
+use Rattle.syntax_defs.specs.Escapes.{Escaped, Char, Set, Escape, signed, behind_backslash, named_bracket}
 
 -- reading a set at a place
 abbrev pub SetReader : Type 0
@@ -70,13 +70,15 @@ length_of bracket = (if bracket.negated then 5 else 4) + length bracket.name
 
 -- single characters, ranges, escapes and brackets
 
--- In a class `\b` is the character 8.
-unfoldable pub class_escape_at : (place : ℕ) → List ℕ → Escape
-class_escape_at place [] = Err (Syntax place)
-class_escape_at place (backslash ∷ []) = Err (Syntax place)
-class_escape_at place (backslash ∷ c ∷ rest) =
+-- behind a backslash in a class, where `\b` is the character 8
+unfoldable pub behind_class_backslash : (place : ℕ) → List ℕ → Escape
+behind_class_backslash place [] = Err (Syntax place)
+behind_class_backslash place (c ∷ rest) =
     if c == 98 then Ok (record { value = Char 8; place = place + 2; rest = rest })
-    else escape_at place (backslash ∷ c ∷ rest)
+    else behind_backslash place (c ∷ rest)
+
+abbrev pub class_escape_at : (place : ℕ) → List ℕ → Escape
+class_escape_at place from = behind_class_backslash place (drop 1 from)
 
 abbrev pub set_or_fault : (place : ℕ) → List ℕ → Bracket → Option NamedSet → Escape
 set_or_fault place rest bracket None = Err (LeftOut place)
