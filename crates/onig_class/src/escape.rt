@@ -1,14 +1,13 @@
 ghost use Rattle.std.specs.Prelude.{◌≡◌, ◌<◌, ◌≤◌, ◌+◌, ℕ, List, length, drop, slice_get, IfOk, IfSome};
 ghost use Rattle.syntax_defs.specs.Reading.{Gives};
-ghost use Rattle.syntax_defs.specs.Escapes.{control_of, set_of, closing, property_to, property_at, longer_escape, escape_by, behind_backslash, escape_at, signed};
-ghost use Rattle.char_sets.specs.Named.{in_named};
-ghost use Rattle.char_sets.specs.Ranges.{IsSetOf};
+ghost use Rattle.syntax_defs.specs.Escapes.{control_of, set_of, closing, property_to, property_at, longer_escape, escape_by, behind_backslash, escape_at};
 ghost use Rattle.onig_class.specs.Fits.{IsEscape, IsEscaped};
 
 use crate::hex::{hex, unicode};
 use crate::names::property_by;
+use crate::sets::named_set;
 use char_sets::{CharSet, NamedSet};
-use std::alloc::{AllocError, Global};
+use std::alloc::Global;
 use syntax_defs::PatternRefusal;
 
 /// What an escape stands for: a character, or a named set or, where the flag is set, its complement.
@@ -208,19 +207,4 @@ fn made(
             Err(_) => Err(PatternRefusal::Memory),
         },
     }
-}
-
-/// A named set, or its complement.
-pub(crate) fn named_set(
-    alloc: Global,
-    set: NamedSet,
-    negated: bool,
-) -> Result<CharSet, AllocError>
-    ensures { IfOk result (λ s. IsSetOf s (signed negated (in_named set))) }
-{
-    let named = CharSet::named(alloc, set)?;
-    if negated {
-        return named.complement(alloc);
-    }
-    Ok(named)
 }

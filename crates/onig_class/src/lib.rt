@@ -3,6 +3,9 @@
 
 mod escape;
 mod hex;
+mod items;
 mod names;
+mod sets;
 
 pub use escape::{Escaped, read_escape};
+pub use sets::{dot, one_char};
