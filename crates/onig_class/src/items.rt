@@ -3,7 +3,7 @@ ghost use Rattle.std.specs.List.{prefix_len};
 ghost use Rattle.char_sets.specs.Named.{is_word};
 ghost use Rattle.char_sets.specs.Ranges.{IsSetOf};
 ghost use Rattle.syntax_defs.specs.Reading.{Gives};
-ghost use Rattle.syntax_defs.specs.Classes.{name_length, named_by, behind_colon, bracket_at, behind_class_backslash, behind_bracket, item_at, single_at, range_end, member_at};
+ghost use Rattle.syntax_defs.specs.Classes.{name_length, named_by, behind_colon, bracket_at, behind_class_backslash, behind_bracket, item_at, char_of, begins_with, single_at, range_end, range_or_one, member_at};
 ghost use Rattle.onig_class.specs.Fits.{IsEscape, IsSingle};
 
 use crate::escape::{Escape, escape_at};
@@ -123,13 +123,128 @@ fn item_at(alloc: Global, text: &[char], at: usize) -> Result<(Escape, usize), P
     }
 }
 
-/// The character that an escape stands for, if it stands for one.
-fn char_of(
-    escape: Result<(Escape, usize), PatternRefusal>,
-) -> Result<Option<(char, usize)>, PatternRefusal> {
-    match escape {
+/// The character that an escape in a class stands for, if it stands for one.
+fn escaped_char(
+    alloc: Global,
+    text: &[char],
+    at: usize,
+) -> Result<Option<(char, usize)>, PatternRefusal>
+    requires there { at < length text.now }
+    requires short { length text.now ≤ 65_536 }
+    ensures value { IfOk result (λ single. IsSingle text.now single (char_of (behind_class_backslash at (drop (at + 1) text.now)))) }
+    ensures place { IfOk result (λ single. IfSome single (λ found. (at < found.1) × (found.1 ≤ length text.now))) }
+    ensures memory { IfErr result (λ e. e ≡ PatternRefusal.Memory) }
+{
+    match class_escape(alloc, text, at) {
         Ok((Escape::Char(c), next)) => Ok(Some((c, next))),
+        Ok((Escape::Set(_, _), _)) => Ok(None),
         Err(PatternRefusal::Memory) => Err(PatternRefusal::Memory),
+        Err(_) => Ok(None),
+    }
+}
+
+/// The single character that stands at a place, if one does.
+#[tactic(auto, unfolding(syntax_defs::specs::Classes::single_at))]
+fn single_at(
+    alloc: Global,
+    text: &[char],
+    at: usize,
+) -> Result<Option<(char, usize)>, PatternRefusal>
+    requires there { at ≤ length text.now }
+    requires short { length text.now ≤ 65_536 }
+    ensures value { IfOk result (λ single. IsSingle text.now single (single_at at (drop at text.now))) }
+    ensures place { IfOk result (λ single. IfSome single (λ found. (at < found.1) × (found.1 ≤ length text.now))) }
+    ensures memory { IfErr result (λ e. e ≡ PatternRefusal.Memory) }
+{
+    match &text[at..] {
+        ['\\', ..] => escaped_char(alloc, text, at),
+        [] | ['[' | ']', ..] => Ok(None),
+        ['&', rest @ ..] if begins_with(rest, '&') => Ok(None),
+        [c, ..] => Ok(Some((*c, at + 1))),
+    }
+}
+
+/// Whether a text begins with a character.
+pub(crate) fn begins_with(rest: &[char], c: char) -> bool
+    ensures { result ≡ begins_with c rest.now }
+{
+    match rest {
+        [] => false,
+        [d, ..] => *d == c,
+    }
+}
+
+/// The last character of a range, behind its first: a `-`, and a single character.
+#[tactic(auto, unfolding(syntax_defs::specs::Classes::range_end))]
+fn range_end(
+    alloc: Global,
+    text: &[char],
+    at: usize,
+) -> Result<Option<(char, usize)>, PatternRefusal>
+    requires there { at ≤ length text.now }
+    requires short { length text.now ≤ 65_536 }
+    ensures value { IfOk result (λ single. IsSingle text.now single (range_end at (drop at text.now))) }
+    ensures place { IfOk result (λ single. IfSome single (λ found. (at < found.1) × (found.1 ≤ length text.now))) }
+    ensures memory { IfErr result (λ e. e ≡ PatternRefusal.Memory) }
+{
+    match &text[at..] {
+        ['-', ..] => single_at(alloc, text, at + 1),
         _ => Ok(None),
+    }
+}
+
+/// A set and the place behind it, unless memory ran out.
+fn placed(
+    set: Result<CharSet, AllocError>,
+    next: usize,
+) -> Result<(CharSet, usize), PatternRefusal>
+    ensures found { IfOk result (λ found. (found.1 ≡ next) × (set ≡ Ok found.0)) }
+    ensures memory { IfErr result (λ e. e ≡ PatternRefusal.Memory) }
+{
+    match set {
+        Ok(set) => Ok((set, next)),
+        Err(_) => Err(PatternRefusal::Memory),
+    }
+}
+
+/// The member that begins at `at` with the character `first`, up to `next`: a range, or that character.
+fn range_or_one(
+    alloc: Global,
+    text: &[char],
+    at: usize,
+    fold: bool,
+    first: char,
+    next: usize,
+) -> Result<(CharSet, usize), PatternRefusal>
+    requires before { at < next }
+    requires there { next ≤ length text.now }
+    requires short { length text.now ≤ 65_536 }
+    ensures value { Gives IsSetOf text.now result (range_or_one fold at first next (drop next text.now) (range_end next (drop next text.now))) }
+    ensures place { IfOk result (λ found. (at < found.1) × (found.1 ≤ length text.now)) }
+{
+    match range_end(alloc, text, next)? {
+        None => placed(one_char(alloc, first, fold), next),
+        Some((last, _)) if last < first => Err(PatternRefusal::Syntax { at: at as u64 }),
+        Some((last, end)) => placed(char_range(alloc, first, last, fold), end),
+    }
+}
+
+/// A member of a class that is no class itself.
+#[tactic(auto, unfolding(syntax_defs::specs::Classes::member_at))]
+pub(crate) fn member_at(
+    alloc: Global,
+    text: &[char],
+    at: usize,
+    fold: bool,
+) -> Result<(CharSet, usize), PatternRefusal>
+    requires there { at < length text.now }
+    requires short { length text.now ≤ 65_536 }
+    ensures value { Gives IsSetOf text.now result (member_at fold at (drop at text.now)) }
+    ensures place { IfOk result (λ found. (at < found.1) × (found.1 ≤ length text.now)) }
+{
+    let (item, next) = item_at(alloc, text, at)?;
+    match item {
+        Escape::Char(first) => range_or_one(alloc, text, at, fold, first, next),
+        Escape::Set(set, negated) => placed(named_set(alloc, set, negated), next),
     }
 }

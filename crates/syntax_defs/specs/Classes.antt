@@ -108,24 +108,24 @@ single_at place (c ∷ rest) =
     else Some (record { value = c; place = place + 1; rest = rest })
 
 -- the last character of a range, behind its first: a `-`, and a single character
-abbrev pub range_end : (place : ℕ) → List ℕ → Option (Read ℕ)
+unfoldable pub range_end : (place : ℕ) → List ℕ → Option (Read ℕ)
 range_end place [] = None
 range_end place (c ∷ rest) = if c == 45 then single_at (place + 1) rest else None
 
--- a range from `first` on, or the one character
-abbrev pub range_or_one : (fold : Bool) (place first : ℕ) → Read Escaped → Option (Read ℕ) → Result (Read (ℕ → Bool)) Fault
-range_or_one fold place first item None = Ok (record { value = is_char_folded fold first; place = item.place; rest = item.rest })
-range_or_one fold place first item (Some last) =
+-- a range from `first` on, or the one character, which ends at `next`
+abbrev pub range_or_one : (fold : Bool) (place first next : ℕ) → List ℕ → Option (Read ℕ) → Result (Read (ℕ → Bool)) Fault
+range_or_one fold place first next rest None = Ok (record { value = is_char_folded fold first; place = next; rest = rest })
+range_or_one fold place first next rest (Some last) =
     if nat_lt last.value first then Err (Syntax place)
     else Ok (record { value = folded fold (is_from_to first last.value); place = last.place; rest = last.rest })
 
-abbrev pub member_from : (fold : Bool) (place : ℕ) → Read Escaped → Escaped → Result (Read (ℕ → Bool)) Fault
-member_from fold place item (Char c) = range_or_one fold place c item (range_end item.place item.rest)
-member_from fold place item (Set p) = Ok (record { value = p; place = item.place; rest = item.rest })
+abbrev pub member_from : (fold : Bool) (place next : ℕ) → List ℕ → Escaped → Result (Read (ℕ → Bool)) Fault
+member_from fold place next rest (Char c) = range_or_one fold place c next rest (range_end next rest)
+member_from fold place next rest (Set p) = Ok (record { value = p; place = next; rest = rest })
 
 -- a member of a class that is no class itself
 unfoldable pub member_at : (fold : Bool) → SetReader
-member_at fold place rest = item_at place rest >>= λ item. member_from fold place item item.value
+member_at fold place rest = item_at place rest >>= λ item. member_from fold place item.place item.rest item.value
 
 -- classes
 
