@@ -194,7 +194,7 @@ fn range_end(
 }
 
 /// A set and the place behind it, unless memory ran out.
-fn placed(
+pub(crate) fn placed(
     set: Result<CharSet, AllocError>,
     next: usize,
 ) -> Result<(CharSet, usize), PatternRefusal>
