@@ -1,7 +1,7 @@
-ghost use Rattle.std.specs.Prelude.{◌≡◌, ◌<◌, ◌≤◌, ◌+◌, ◌-◌, true, length, drop, slice_get, IfOk};
+ghost use Rattle.std.specs.Prelude.{◌≡◌, ◌<◌, ◌≤◌, ◌+◌, ◌-◌, true, length, drop, slice_get, IfOk, if◌then◌else◌};
 ghost use Rattle.char_sets.specs.Ranges.{IsSetOf};
 ghost use Rattle.syntax_defs.specs.Reading.{Gives};
-ghost use Rattle.syntax_defs.specs.Classes.{no_members, part_at, members_at, class_within, class_at};
+ghost use Rattle.syntax_defs.specs.Classes.{no_members, begins_with, part_at, members_at, class_within, class_at};
 ghost use Rattle.onig_class.specs.SidesFit.{needs};
 
 use crate::items::{begins_with, bracket_at, member_at, placed};
@@ -13,16 +13,31 @@ use syntax_defs::{ClassPart, PatternRefusal};
 
 /// What stands next in a class.
 #[tactic(auto, unfolding(syntax_defs::specs::Classes::part_at))]
-fn part_at(rest: &[char], first: bool) -> ClassPart
-    ensures value { result ≡ part_at first rest.now }
-    ensures inside { needs result ≤ length rest.now }
+fn part_at(text: &[char], at: usize, first: bool) -> ClassPart
+    requires { at ≤ length text.now }
+    ensures value { result ≡ part_at first (drop at text.now) }
+    ensures inside { at + needs result ≤ length text.now }
 {
-    match rest {
+    match &text[at..] {
         [] => ClassPart::End,
         [']', ..] if !first => ClassPart::Close,
         ['&', behind @ ..] if begins_with(behind, '&') => ClassPart::And,
         ['[', behind @ ..] if bracket_at(behind).is_none() => ClassPart::Class,
         [_, ..] => ClassPart::Member,
+    }
+}
+
+/// Whether a class is a complement, and where its members begin.
+fn opening(text: &[char], at: usize) -> (bool, usize)
+    requires there { at < length text.now }
+    requires short { length text.now ≤ 65_536 }
+    ensures negated { result.0 ≡ begins_with 94 (drop (at + 1) text.now) }
+    ensures start { result.1 ≡ at + (if result.0 then 2 else 1) }
+    ensures inside { result.1 ≤ length text.now }
+{
+    match &text[at + 1..] {
+        ['^', ..] => (true, at + 2),
+        _ => (false, at + 1),
     }
 }
 
@@ -39,6 +54,7 @@ fn members(
     requires before { from < start }
     requires there { start ≤ length text.now }
     requires short { length text.now ≤ 65_536 }
+    requires few { levels ≤ 100 }
     ensures value { Gives IsSetOf text.now result (members_at (class_within levels fold) fold true
         (length (drop from text.now)) no_members start (drop start text.now)) }
     ensures place { IfOk result (λ found. (start < found.1) × (found.1 ≤ length text.now)) }
@@ -47,7 +63,7 @@ fn members(
     let mut at = start;
     let mut first = true;
     loop {
-        match part_at(&text[at..], first) {
+        match part_at(text, at, first) {
             ClassPart::End => return Err(PatternRefusal::Syntax { at: at as u64 }),
             ClassPart::Close => return placed(sides.together(alloc), at + 1),
             ClassPart::And => {
@@ -87,8 +103,7 @@ fn class_within(
     if levels == 0 {
         return Err(PatternRefusal::TooDeep { depth: 101 });
     }
-    let negated = begins_with(&text[at + 1..], '^');
-    let start = if negated { at + 2 } else { at + 1 };
+    let (negated, start) = opening(text, at);
     let (set, next) = members(alloc, text, at, start, fold, levels - 1)?;
     placed(signed(alloc, set, negated), next)
 }
