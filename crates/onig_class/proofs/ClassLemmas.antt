@@ -38,7 +38,11 @@ turn_at : (nested : SetReader) (fold first : Bool) (text : List ℕ) (sides : Si
 unfolding members_at
 turn_at nested fold first text sides at part whole q zero fits enough same h e = absurd (omega arith)
 turn_at nested fold first text sides at part whole q (suc fewer) fits enough same h e = record {
-  q = q; fewer = fewer; fits = fits; enough = omega arith; same = rw e same
+  q = q;
+  fewer = fewer;
+  fits = fits;
+  enough = omega arith;
+  same = rw e same;
 }
 
 pub turn : (nested : SetReader) (fold first : Bool) (text : List ℕ) (sides : Sides) (at : ℕ) (part : ClassPart) (whole : Whole) → Going nested fold text sides at first whole → at ≤ length text → part ≡ part_at first (drop at text) → Turn nested fold text sides at part whole
@@ -62,7 +66,7 @@ pub member_of : (text : List ℕ) (set : List CharRange) (next : ℕ) (read f : 
 member_of text set next (Ok r) f whole fits same = record {
   p = r.value;
   fits = fits.value;
-  same = rw (fits.rest, fits.place) same
+  same = rw (fits.rest, fits.place) same;
 }
 member_of text set next (Err fault) f whole fits same = absurd fits
 

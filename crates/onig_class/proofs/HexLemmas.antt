@@ -45,7 +45,7 @@ one_digit true most n c rest is are =
     record {
       few = omega arith;
       inside = omega arith;
-      all = rw one (rw is are.all)
+      all = rw one (rw is are.all);
     }
 
 pub digits_of : (most : ℕ) (rest : List ℕ) → AreDigits most (hex_count most rest) rest

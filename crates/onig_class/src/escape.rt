@@ -189,11 +189,7 @@ pub fn read_escape(
     made(alloc, text, at)
 }
 
-fn made(
-    alloc: Global,
-    text: &[char],
-    at: usize,
-) -> Result<(Escaped, usize), PatternRefusal>
+fn made(alloc: Global, text: &[char], at: usize) -> Result<(Escaped, usize), PatternRefusal>
     requires there { at < length text.now }
     requires short { length text.now ≤ 65_536 }
     ensures value { Gives IsEscaped text.now result (behind_backslash at (drop (at + 1) text.now)) }

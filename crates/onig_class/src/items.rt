@@ -90,11 +90,7 @@ fn bracket(text: &[char], at: usize) -> Result<(Escape, usize), PatternRefusal>
 
 /// An escape in a class, from its backslash on.
 #[tactic(auto, unfolding(syntax_defs::specs::Classes::behind_class_backslash))]
-fn class_escape(
-    alloc: Global,
-    text: &[char],
-    at: usize,
-) -> Result<(Escape, usize), PatternRefusal>
+fn class_escape(alloc: Global, text: &[char], at: usize) -> Result<(Escape, usize), PatternRefusal>
     requires there { at < length text.now }
     requires short { length text.now ≤ 65_536 }
     ensures value { Gives IsEscape text.now result (behind_class_backslash at (drop (at + 1) text.now)) }

@@ -12,3 +12,6 @@ mod sides;
 pub use class::read_class;
 pub use escape::{Escaped, read_escape};
 pub use sets::{dot, one_char};
+
+#[cfg(test)]
+mod tests;

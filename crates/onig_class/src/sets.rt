@@ -53,11 +53,7 @@ pub(crate) fn signed(alloc: Global, set: CharSet, negated: bool) -> Result<CharS
 }
 
 /// A named set or, where `negated`, its complement.
-pub(crate) fn named_set(
-    alloc: Global,
-    set: NamedSet,
-    negated: bool,
-) -> Result<CharSet, AllocError>
+pub(crate) fn named_set(alloc: Global, set: NamedSet, negated: bool) -> Result<CharSet, AllocError>
     ensures { IfOk result (λ s. IsSetOf s (signed negated (in_named set))) }
 {
     signed(alloc, CharSet::named(alloc, set)?, negated)

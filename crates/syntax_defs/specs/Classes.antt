@@ -4,7 +4,7 @@ use Rattle.std.specs.Prelude.{ℕ, zero, suc, ◌+◌, ◌-◌, ◌==◌, nat_lt
 use Rattle.std.specs.List.{prefix_len, starts_with}
 use Rattle.std.specs.Char.{is_ascii_alphabetic}
 use Rattle.char_sets.specs.Case.{other_case, is_from_to}
-use Rattle.char_sets.specs.Named.{is_word, in_named}
+use Rattle.char_sets.specs.Named.{is_word}
 use Rattle.char_sets.specs.declared.named.NamedSet.{NamedSet}
 use Rattle.syntax_defs.specs.declared.class_part.ClassPart.{ClassPart}
 use Rattle.syntax_defs.specs.declared.class_part.ClassPart.TheVariants as parts

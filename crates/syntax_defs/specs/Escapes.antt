@@ -12,7 +12,7 @@ use Rattle.ucd_category.specs.declared.GeneralCategoryGroup.TheVariants as group
 use Rattle.char_sets.specs.Named.{in_named}
 use Rattle.char_sets.specs.declared.named.NamedSet.{NamedSet}
 use Rattle.char_sets.specs.declared.named.NamedSet.TheVariants as sets
-use Rattle.syntax_defs.specs.Reading.{Fault, Syntax, LeftOut, Read, ◌>>=◌}
+use Rattle.syntax_defs.specs.Reading.{Fault, Syntax, LeftOut, Read}
 
 -- what an escape stands for: one character, or the characters that pass a test
 pub data Escaped : Type 0 where

@@ -1,3 +1,4 @@
+pub mod ClassExamples
 pub mod Classes
 pub mod EscapeExamples
 pub mod Escapes

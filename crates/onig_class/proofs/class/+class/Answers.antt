@@ -60,8 +60,8 @@ members-loop-sides-preserved-in_ok-sides-in-And t c =
         most = w.fewer;
         fits = c.in_ok-sides-in-And.ensures w.q w.fits;
         enough = omega (arith, w.enough);
-        same = rw (← drop-drop 2 c.loop-sides.at c.args.text.now) w.same
-      }
+        same = rw (← drop-drop 2 c.loop-sides.at c.args.text.now) w.same;
+      };
     }
 
 pub members-loop-sides-preserved-in_ok-sides-in-Class :
@@ -79,8 +79,8 @@ members-loop-sides-preserved-in_ok-sides-in-Class t c =
         most = w.fewer;
         fits = c.in_ok-sides-in-Class.ensures w.q m.p w.fits m.fits;
         enough = omega (arith, w.enough, place.0);
-        same = m.same
-      }
+        same = m.same;
+      };
     }
 
 pub members-loop-sides-preserved : goal.members-loop-sides-preserved
@@ -97,6 +97,6 @@ members-loop-sides-preserved t c =
         most = w.fewer;
         fits = c.in_ok-sides-in-Member.ensures w.q m.p w.fits m.fits;
         enough = omega (arith, w.enough, place.0);
-        same = m.same
-      }
+        same = m.same;
+      };
     }
