@@ -200,7 +200,7 @@ fn properties_name_sets(rt: HostRuntime) -> Result<(), Fail> {
     for (name, chars, wanted) in cases {
         let text = format!(in rt.alloc(); "\\p{{{name}}}")?;
         let shown = escape_shown(rt.alloc(), text.as_str(), chars)?;
-        let behind = name.len() + 4;
+        let behind = text.len();
         let wanted = format!(in rt.alloc(); "{behind} {wanted}")?;
         assert_eq!(rt; shown.as_str(), wanted.as_str(), "{name}");
     }
