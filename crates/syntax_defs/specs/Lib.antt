@@ -1,1 +1,5 @@
+pub mod ClassExamples
+pub mod Classes
+pub mod EscapeExamples
+pub mod Escapes
 pub mod Reading

@@ -1,3 +1,7 @@
+ghost use Rattle.std.specs.Prelude.{◌≡◌};
+ghost use Rattle.syntax_defs.specs.declared.refusal.PatternRefusal.TheVariants.{Memory};
+
+use std::alloc::{AllocError, AllocFailed};
 use thiserror::Error;
 
 /// Why a text is no pattern. Places count characters from 0. The forms are those of Oniguruma's RE with Ruby
@@ -18,4 +22,20 @@ pub enum PatternRefusal {
     TooLong { count: u64 },
     #[error("memory")]
     Memory,
+}
+
+impl From<AllocError> for PatternRefusal {
+    ghost from_gives = { λ _ e. e ≡ Memory };
+
+    fn from(_e: AllocError) -> PatternRefusal {
+        PatternRefusal::Memory
+    }
+}
+
+impl<T: Drop> From<AllocFailed<T>> for PatternRefusal {
+    ghost from_gives = { λ _ e. e ≡ Memory };
+
+    fn from(_e: AllocFailed<T>) -> PatternRefusal {
+        PatternRefusal::Memory
+    }
 }
