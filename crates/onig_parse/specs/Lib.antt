@@ -1,2 +1,2 @@
+pub mod Drafts
 pub mod Kept
-pub mod Parts
