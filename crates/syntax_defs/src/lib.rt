@@ -1,6 +1,8 @@
 //! Reading pattern texts: why a text is refused, and the definitions of what it stands for.
 #![tactic(auto)]
 
+pub mod items;
 pub mod refusal;
 
+pub use items::{Bounds, Form, GroupName, Head, Item, Options, Sight, Span, Target};
 pub use refusal::PatternRefusal;
