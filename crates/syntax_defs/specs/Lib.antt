@@ -1,1 +1,4 @@
+pub mod Classes
+pub mod EscapeExamples
+pub mod Escapes
 pub mod Reading

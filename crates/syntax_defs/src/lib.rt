@@ -1,6 +1,8 @@
 //! Reading pattern texts: why a text is refused, and the definitions of what it stands for.
 #![tactic(auto)]
 
+pub mod class_part;
 pub mod refusal;
 
+pub use class_part::ClassPart;
 pub use refusal::PatternRefusal;
