@@ -1,2 +1,4 @@
+pub mod Case
+pub mod Keep
 pub mod Named
 pub mod Ranges

@@ -1,3 +1,6 @@
+pub mod Classes
+pub mod EscapeExamples
+pub mod Escapes
 pub mod Heads
 pub mod Lengths
 pub mod PatternExamples

@@ -1,0 +1,3 @@
+pub mod Joined
+pub mod Letters
+pub mod Rising

@@ -1,0 +1,5 @@
+use Rattle.char_sets.proofs.Letters.{Letters}
+use Rattle.char_sets.proofs.algebra.in_other_case_of.Given as goal
+
+abbrev pub invariant-loop-code : goal.invariant-loop-code
+invariant-loop-code l = Letters l.out.items l.code l.ranges

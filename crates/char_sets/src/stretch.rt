@@ -1,0 +1,73 @@
+ghost use Rattle.std.specs.Prelude.{◌≡◌, ◌≤◌, ◌<◌, ℕ, true, length, drop, slice_index_or};
+ghost use Rattle.char_sets.specs.Ranges.{in_set, rises};
+ghost use Rattle.char_sets.specs.declared.char_set.CharRange.{CharRange};
+
+use crate::char_set::CharRange;
+
+/// One above the greatest code.
+pub(crate) const END: u32 = 0x11_0000;
+
+/// Whether the codes from one place up to an end are in a set: all of them, or none.
+#[derive(Clone, Copy, Debug)]
+pub(crate) struct Stretch {
+    pub(crate) has: bool,
+    pub(crate) end: u32,
+}
+
+/// The place of the first range that ends at the code or after it, found by halves.
+fn first_reaching(ranges: &[CharRange], code: u32) -> usize
+    requires { rises 0 ranges.now ≡ true }
+    ensures within { result ≤ length ranges.now }
+    ensures before { (c : ℕ) → code ≤ c → in_set ranges.now c ≡ in_set (drop result ranges.now) c }
+    ensures reaches { (d : CharRange) → result < length ranges.now → code ≤ (slice_index_or ranges.now result d).last }
+{
+    let mut low = 0;
+    let mut high = ranges.len();
+    while low < high {
+        let mid = low + (high - low) / 2;
+        if ranges[mid].last < code {
+            low = mid + 1;
+        } else {
+            high = mid;
+        }
+    }
+    low
+}
+
+/// From the code on: how far all codes are in the ranges, or none is.
+pub(crate) fn stretch_at(ranges: &[CharRange], code: u32) -> Stretch
+    requires rising { rises 0 ranges.now ≡ true }
+    requires within { code < 1_114_112 }
+    ensures all { (c : ℕ) → code ≤ c → c < result.end → in_set ranges.now c ≡ result.has }
+    ensures further { code < result.end }
+    ensures end { result.end ≤ 1_114_112 }
+{
+    let place = first_reaching(ranges, code);
+    if place == ranges.len() {
+        return Stretch {
+            has: false,
+            end: END,
+        };
+    }
+    let range = ranges[place];
+    if code < range.first {
+        Stretch {
+            has: false,
+            end: range.first,
+        }
+    } else {
+        Stretch {
+            has: true,
+            end: range.last + 1,
+        }
+    }
+}
+
+/// Whether the character with this code is in the ranges.
+pub(crate) fn has_code(ranges: &[CharRange], code: u32) -> bool
+    requires rising { rises 0 ranges.now ≡ true }
+    requires within { code < 1_114_112 }
+    ensures { result ≡ in_set ranges.now code }
+{
+    stretch_at(ranges, code).has
+}

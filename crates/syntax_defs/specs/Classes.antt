@@ -1,0 +1,193 @@
+-- Classes: sets of characters between brackets. The forms are those of Oniguruma's RE with Ruby syntax; that a `-`
+-- beside a set is itself, and that letters are joined with their other case before all else, is this project's own.
+use Rattle.std.specs.Prelude.{ℕ, zero, suc, ◌+◌, ◌-◌, ◌==◌, nat_lt, nat_eq, List, [], ◌∷◌, length, take, drop, Bool, true, false, ◌&&◌, ◌||◌, not, if◌then◌else◌, is_none, Option, Some, None, Result, Ok, Err}
+use Rattle.std.specs.List.{prefix_len, starts_with}
+use Rattle.std.specs.Char.{is_ascii_alphabetic}
+use Rattle.char_sets.specs.Case.{other_case, is_from_to}
+use Rattle.char_sets.specs.Named.{is_word, in_named}
+use Rattle.char_sets.specs.declared.named.NamedSet.{NamedSet}
+use Rattle.syntax_defs.specs.declared.class_part.ClassPart.{ClassPart}
+use Rattle.syntax_defs.specs.declared.class_part.ClassPart.TheVariants as parts
+use Rattle.syntax_defs.specs.Reading.{Fault, Syntax, LeftOut, TooDeep, Read, ◌>>=◌}
+use Rattle.syntax_defs.specs.Escapes.{Escaped, Char, Set, Escape, signed, escape_at, named_bracket}
+
+-- reading a set at a place
+abbrev pub SetReader : Type 0
+SetReader = (place : ℕ) → List ℕ → Result (Read (ℕ → Bool)) Fault
+
+-- sets of characters
+
+-- under the option `i` a letter stands for both of its ASCII cases
+abbrev pub folded : (fold : Bool) → (ℕ → Bool) → ℕ → Bool
+folded true p c = p c || p (other_case c)
+folded false p c = p c
+
+-- one character, which stands for itself
+abbrev pub is_char_folded : (fold : Bool) → (char : ℕ) → ℕ → Bool
+is_char_folded fold char = folded fold (is_from_to char char)
+
+-- the dot: any character but LF, and under the option `m` any
+abbrev pub is_dot : (many : Bool) → ℕ → Bool
+is_dot true c = true
+is_dot false c = not (c == 10)
+
+-- names in brackets
+
+abbrev pub begins_with : ℕ → List ℕ → Bool
+begins_with c [] = false
+begins_with c (d ∷ rest) = d == c
+
+-- how long the name is that a text begins with: an ASCII letter or `_`, and word characters behind it
+abbrev pub name_length : List ℕ → ℕ
+name_length [] = 0
+name_length (c ∷ rest) = if is_ascii_alphabetic c || c == 95 then 1 + prefix_len is_word rest else 0
+
+-- `[:name:]` or `[:^name:]`
+pub record Bracket : Type 0 where
+  pub negated : Bool
+  pub name : List ℕ
+
+-- where a name and `:]` follow
+abbrev pub named_by : (negated : Bool) → List ℕ → Option Bracket
+named_by negated rest =
+    let long = name_length rest in
+    if nat_lt 0 long && starts_with nat_eq (drop long rest) (58 ∷ 93 ∷ [])
+    then Some (record { negated = negated; name = take long rest }) else None
+
+abbrev pub bracket_when : (colon : Bool) → List ℕ → Option Bracket
+bracket_when false rest = None
+bracket_when true [] = None
+bracket_when true (c ∷ rest) = if c == 94 then named_by true rest else named_by false (c ∷ rest)
+
+-- the bracket that a text begins, if it begins one, what stands behind its `[` given
+unfoldable pub bracket_at : List ℕ → Option Bracket
+bracket_at [] = None
+bracket_at (c ∷ rest) = bracket_when (c == 58) rest
+
+-- how many characters it takes
+abbrev pub length_of : Bracket → ℕ
+length_of bracket = (if bracket.negated then 5 else 4) + length bracket.name
+
+-- single characters, ranges, escapes and brackets
+
+-- In a class `\b` is the character 8.
+unfoldable pub class_escape_at : (place : ℕ) → List ℕ → Escape
+class_escape_at place [] = Err (Syntax place)
+class_escape_at place (backslash ∷ []) = Err (Syntax place)
+class_escape_at place (backslash ∷ c ∷ rest) =
+    if c == 98 then Ok (record { value = Char 8; place = place + 2; rest = rest })
+    else escape_at place (backslash ∷ c ∷ rest)
+
+abbrev pub set_or_fault : (place : ℕ) → List ℕ → Bracket → Option NamedSet → Escape
+set_or_fault place rest bracket None = Err (LeftOut place)
+set_or_fault place rest bracket (Some set) = Ok (record {
+  value = Set (signed bracket.negated (in_named set));
+  place = place + length_of bracket;
+  rest = drop (length_of bracket) rest
+})
+
+abbrev pub bracket_or_fault : (place : ℕ) → List ℕ → Option Bracket → Escape
+bracket_or_fault place rest None = Err (Syntax place)
+bracket_or_fault place rest (Some bracket) = set_or_fault place rest bracket (named_bracket bracket.name)
+
+-- one character or a set, from its first character on
+unfoldable pub item_at : (place : ℕ) → List ℕ → Escape
+item_at place [] = Err (Syntax place)
+item_at place (c ∷ rest) =
+    if c == 92 then class_escape_at place (c ∷ rest)
+    else if c == 91 then bracket_or_fault place (c ∷ rest) (bracket_at rest)
+    else Ok (record { value = Char c; place = place + 1; rest = rest })
+
+abbrev pub char_of_value : Read Escaped → Escaped → Option (Read ℕ)
+char_of_value item (Char c) = Some (record { value = c; place = item.place; rest = item.rest })
+char_of_value item (Set p) = None
+
+abbrev pub char_of : Escape → Option (Read ℕ)
+char_of (Ok item) = char_of_value item item.value
+char_of (Err fault) = None
+
+-- the single character that a text begins with, if one does
+unfoldable pub single_at : (place : ℕ) → List ℕ → Option (Read ℕ)
+single_at place [] = None
+single_at place (c ∷ rest) =
+    if c == 92 then char_of (class_escape_at place (c ∷ rest))
+    else if (c == 91 || c == 93) || (c == 38 && begins_with 38 rest) then None
+    else Some (record { value = c; place = place + 1; rest = rest })
+
+-- the last character of a range, behind its first: a `-`, and a single character
+abbrev pub range_end : (place : ℕ) → List ℕ → Option (Read ℕ)
+range_end place [] = None
+range_end place (c ∷ rest) = if c == 45 then single_at (place + 1) rest else None
+
+-- a range from `first` on, or the one character
+abbrev pub range_or_one : (fold : Bool) (place first : ℕ) → Read Escaped → Option (Read ℕ) → Result (Read (ℕ → Bool)) Fault
+range_or_one fold place first item None = Ok (record { value = is_char_folded fold first; place = item.place; rest = item.rest })
+range_or_one fold place first item (Some last) =
+    if nat_lt last.value first then Err (Syntax place)
+    else Ok (record { value = folded fold (is_from_to first last.value); place = last.place; rest = last.rest })
+
+abbrev pub member_from : (fold : Bool) (place : ℕ) → Read Escaped → Escaped → Result (Read (ℕ → Bool)) Fault
+member_from fold place item (Char c) = range_or_one fold place c item (range_end item.place item.rest)
+member_from fold place item (Set p) = Ok (record { value = p; place = item.place; rest = item.rest })
+
+-- a member of a class that is no class itself
+unfoldable pub member_at : (fold : Bool) → SetReader
+member_at fold place rest = item_at place rest >>= λ item. member_from fold place item item.value
+
+-- classes
+
+-- the characters of a class so far: what all unions before the last `&&` have together, and the union since
+pub record Sides : Type 0 where
+  pub before : ℕ → Bool
+  pub here : ℕ → Bool
+
+abbrev pub no_members : Sides
+no_members = record { before = λ c. true; here = λ c. false }
+
+abbrev pub with_member : Sides → (ℕ → Bool) → Sides
+with_member sides p = record { before = sides.before; here = λ c. sides.here c || p c }
+
+abbrev pub together : Sides → ℕ → Bool
+together sides c = sides.before c && sides.here c
+
+abbrev pub next_side : Sides → Sides
+next_side sides = record { before = together sides; here = λ c. false }
+
+-- What stands next in a class. A `]` ends it, but not as its very first member.
+unfoldable pub part_at : (first : Bool) → List ℕ → ClassPart
+part_at first [] = parts.End
+part_at first (c ∷ rest) =
+    if c == 93 && not first then parts.Close
+    else if c == 38 && begins_with 38 rest then parts.And
+    else if c == 91 && is_none (bracket_at rest) then parts.Class
+    else parts.Member
+
+abbrev pub by_part : (go : Sides → SetReader) (nested : SetReader) (fold : Bool) → Sides → (place : ℕ) → List ℕ → ClassPart → Result (Read (ℕ → Bool)) Fault
+by_part go nested fold sides place rest parts.End = Err (Syntax place)
+by_part go nested fold sides place rest parts.Close = Ok (record { value = together sides; place = place + 1; rest = drop 1 rest })
+by_part go nested fold sides place rest parts.And = go (next_side sides) (place + 2) (drop 2 rest)
+by_part go nested fold sides place rest parts.Class = nested place rest >>= λ x. go (with_member sides x.value) x.place x.rest
+by_part go nested fold sides place rest parts.Member = member_at fold place rest >>= λ x. go (with_member sides x.value) x.place x.rest
+
+-- the members of a class up to its `]`, at most so many
+unfoldable pub members_at : (nested : SetReader) (fold first : Bool) (most : ℕ) → Sides → SetReader
+members_at nested fold first zero sides place rest = Err (Syntax place)
+members_at nested fold first (suc most) sides place rest =
+    by_part (members_at nested fold false most) nested fold sides place rest (part_at first rest)
+
+-- behind the `[`, or the `[^`
+abbrev pub body_at : (nested : SetReader) (fold negated : Bool) → SetReader
+body_at nested fold negated place rest =
+    let opened = if negated then 2 else 1 in
+    members_at nested fold true (length rest) no_members (place + opened) (drop opened rest)
+    >>= λ x. Ok (record { value = signed negated x.value; place = x.place; rest = x.rest })
+
+-- a class, where so many levels of classes may still be opened
+unfoldable pub class_within : (levels : ℕ) (fold : Bool) → SetReader
+class_within zero fold place rest = Err (TooDeep 101)
+class_within (suc levels) fold place rest =
+    body_at (class_within levels fold) fold (begins_with 94 (drop 1 rest)) place rest
+
+-- A class, from its `[` on. So many groups and classes are open round it.
+abbrev pub class_at : (fold : Bool) (depth : ℕ) → SetReader
+class_at fold depth = class_within (100 - depth) fold

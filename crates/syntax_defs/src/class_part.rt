@@ -1,0 +1,9 @@
+/// What stands next in a class: the text's end, the closing bracket, a `&&`, a class of its own, or any other member.
+#[derive(Clone, Copy, Debug, PartialEq, Eq)]
+pub enum ClassPart {
+    End,
+    Close,
+    And,
+    Class,
+    Member,
+}
