@@ -1,8 +1,8 @@
 -- The heads of forms in parentheses, and names. The forms are those of Oniguruma's RE with Ruby syntax; which are
 -- left out is this project's own.
-use Rattle.std.specs.Prelude.{ℕ, ◌+◌, ◌==◌, List, [], ◌∷◌, length, drop, take_while, Bool, true, false, ◌&&◌, ◌||◌, not, if◌then◌else◌, Option, Some, None, Result, Ok, Err}
+use Rattle.std.specs.Prelude.{ℕ, ◌+◌, ◌==◌, List, [], ◌∷◌, length, take, drop, Bool, true, false, ◌&&◌, ◌||◌, not, if◌then◌else◌, Option, Some, None, Result, Ok, Err}
 use Rattle.std.specs.Char.{is_ascii_alphabetic, is_ascii_digit}
-use Rattle.std.specs.List.{list_any, list_all}
+use Rattle.std.specs.List.{list_any, list_all, prefix_len}
 use Rattle.char_sets.specs.Named.{is_word}
 use Rattle.syntax_defs.specs.declared.items.Options.{Options}
 use Rattle.syntax_defs.specs.declared.items.Span.{Span}
@@ -13,8 +13,14 @@ use Rattle.syntax_defs.specs.Sights.{begins_with, is_empty, is_number_start}
 
 -- names
 
+abbrev pub word_count : List ℕ → ℕ
+word_count cs = prefix_len is_word cs
+
 abbrev pub word : List ℕ → List ℕ
-word cs = take_while is_word cs
+word cs = take (word_count cs) cs
+
+abbrev pub behind_word : List ℕ → List ℕ
+behind_word cs = drop (word_count cs) cs
 
 -- what begins as a name does: an ASCII letter or `_`, then word characters
 abbrev pub is_name : List ℕ → Bool
@@ -39,15 +45,21 @@ closed_word close begin end from word (c ∷ cs) =
 -- third. A bad character goes before the text's end.
 abbrev pub word_at : (good : List ℕ → Bool) → (close begin end from : ℕ) → List ℕ → Result Span Fault
 word_at good close begin end from cs =
-    if good (word cs) then closed_word close begin end from (word cs) (drop (length (word cs)) cs) else Err (Syntax begin)
+    if good (word cs) then closed_word close begin end from (word cs) (behind_word cs) else Err (Syntax begin)
 
 -- options
 
 abbrev pub is_option : ℕ → Bool
 is_option c = (c == 105) || ((c == 109) || (c == 120))
 
+abbrev pub letter_count : List ℕ → ℕ
+letter_count cs = prefix_len is_option cs
+
 abbrev pub letters : List ℕ → List ℕ
-letters cs = take_while is_option cs
+letters cs = take (letter_count cs) cs
+
+abbrev pub behind_letters : List ℕ → List ℕ
+behind_letters cs = drop (letter_count cs) cs
 
 abbrev pub switched : ℕ → (on off : List ℕ) → Bool → Bool
 switched c on off before = (before || list_any (λ d. d == c) on) && not (list_any (λ d. d == c) off)
@@ -67,15 +79,19 @@ option_end options changes begin end place (c ∷ cs) =
     else if (c == 41) && changes then Ok (Rest options, place + 1)
     else Err (LeftOut begin)
 
+-- behind the `-`
+abbrev pub minus_head : Options → List ℕ → (begin end : ℕ) → List ℕ → Result (Head × ℕ) Fault
+minus_head options on begin end cs =
+    option_end (with_options options on (letters cs)) true begin end (begin + 3 + length on + letter_count cs) (behind_letters cs)
+
 -- letters, and behind a `-` letters again
-abbrev pub option_head : Options → (begin end : ℕ) → List ℕ → Result (Head × ℕ) Fault
-option_head options begin end cs =
-    let on = letters cs in
-    let rest = drop (length on) cs in
-    let off = letters (drop 1 rest) in
-    if begins_with 45 rest
-    then option_end (with_options options on off) true begin end (begin + 3 + length on + length off) (drop (length off) (drop 1 rest))
+abbrev pub letter_head : Options → List ℕ → (begin end : ℕ) → List ℕ → Result (Head × ℕ) Fault
+letter_head options on begin end rest =
+    if begins_with 45 rest then minus_head options on begin end (drop 1 rest)
     else option_end (with_options options on []) (not (is_empty on)) begin end (begin + 2 + length on) rest
+
+abbrev pub option_head : Options → (begin end : ℕ) → List ℕ → Result (Head × ℕ) Fault
+option_head options begin end cs = letter_head options (letters cs) begin end (behind_letters cs)
 
 -- forms
 

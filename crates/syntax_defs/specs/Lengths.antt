@@ -48,7 +48,7 @@ repeat_length body least None = None
 repeat_length body least (Some most) = if most == least then times body least else None
 
 abbrev pub item_length : List (Option ℕ) → Item → Option ℕ
-item_length lengths (One at options levels) = Some 1
+item_length lengths (One at options depth) = Some 1
 item_length lengths (At anchor) = Some 0
 item_length lengths (Choice ids) = choice_length lengths ids
 item_length lengths (Group number body) = length_of lengths body

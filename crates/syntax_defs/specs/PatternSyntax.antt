@@ -1,7 +1,7 @@
 -- Reading a pattern text from left to right: its items in numbered lists, or the first fault. Lists are numbered in
 -- the order in which they end, which is this project's own, as are the limits.
-use Rattle.std.specs.Prelude.{ℕ, zero, suc, ◌+◌, ◌-◌, ◌==◌, nat_lt, nat_eq, List, [], ◌∷◌, ◌++◌, length, drop, take_while, slice_get, slice_range, Bool, true, false, ◌&&◌, ◌||◌, not, if◌then◌else◌, Option, Some, None, Result, Ok, Err}
-use Rattle.std.specs.List.{list_any, starts_with}
+use Rattle.std.specs.Prelude.{ℕ, zero, suc, ◌+◌, ◌-◌, ◌==◌, nat_lt, nat_eq, List, [], ◌∷◌, ◌++◌, length, drop, min, slice_get, slice_range, Bool, true, false, ◌&&◌, ◌||◌, not, if◌then◌else◌, Option, Some, None, Result, Ok, Err}
+use Rattle.std.specs.List.{list_any, starts_with, prefix_len}
 use Rattle.pattern_defs.specs.declared.nodes.ListId.{ListId}
 use Rattle.syntax_defs.specs.declared.items.Options.{Options}
 use Rattle.syntax_defs.specs.declared.items.Span.{Span}
@@ -18,7 +18,7 @@ use Rattle.syntax_defs.specs.declared.items.Sight.TheVariants.{End, Bar, Close, 
 use Rattle.syntax_defs.specs.declared.items.Head.{Head}
 use Rattle.syntax_defs.specs.declared.items.Head.TheVariants.{Numbered, Plain, Rest, Ahead, Behind, Atomic}
 use Rattle.syntax_defs.specs.Reading.{Fault, Syntax, LeftOut, TooDeep, TooLong, Read, ◌>>=◌}
-use Rattle.syntax_defs.specs.Sights.{digits, number_of, begins_with, sight_at}
+use Rattle.syntax_defs.specs.Sights.{digits, digit_count, number_of, begins_with, sight_at}
 use Rattle.syntax_defs.specs.Heads.{word_at, is_name_or_number, is_number, head_at, inside}
 use Rattle.syntax_defs.specs.Singles.{single_at}
 
@@ -52,11 +52,12 @@ pub record Stepped : Type 0 where
 abbrev pub rest_of : Seen → List ℕ
 rest_of s = drop s.place s.text
 
+-- further on, and at most at the end
 abbrev pub at_place : ℕ → Seen → Seen
-at_place place s = record s { place = place }
+at_place place s = record s { place = min place (length s.text) }
 
 abbrev pub past : ℕ → Seen → Seen
-past count s = record s { place = s.place + count }
+past count s = at_place (s.place + count) s
 
 -- lists that end
 
@@ -177,7 +178,7 @@ target_of text span =
 -- a backslash and a number
 abbrev pub number_item : Options → Seen → (List Item × Seen)
 number_item options s =
-    let found = digits (drop 1 (rest_of s)) in (back s.place (targets.Number (number_of found)) options, past (1 + length found) s)
+    (back s.place (targets.Number (number_of (digits (drop 1 (rest_of s))))) options, past (1 + digit_count (drop 1 (rest_of s))) s)
 
 abbrev pub quoted_item : (close : ℕ) → Options → Seen → Result (List Item × Seen) Fault
 quoted_item close options s =
@@ -240,9 +241,9 @@ group_at go options s =
 -- single characters and sets
 
 abbrev pub single_item : Options → ℕ → Seen → Result (List Item × Seen) Fault
-single_item options levels s =
-    single_at options levels s.place (rest_of s)
-    >>= λ read. Ok (items.One s.place options levels ∷ [], at_place read.place s)
+single_item options depth s =
+    single_at options depth s.place (rest_of s)
+    >>= λ read. Ok (items.One s.place options depth ∷ [], at_place read.place s)
 
 -- one step, by what stands here; so many groups and classes may open
 abbrev pub step_by : Going → ℕ → Options → Sight → Body → Seen → Result Stepped Fault
@@ -250,14 +251,14 @@ step_by go levels options End b s = stop b s
 step_by go levels options Close b s = stop b s
 step_by go levels options Bar b s = go_on (after_bar b s) (past 1 (with_list (open_items b) s))
 step_by go levels options Blank b s = go_on b (past 1 s)
-step_by go levels options Remark b s = go_on b (past (length (take_while (λ c. not (c == 10)) (rest_of s))) s)
+step_by go levels options Remark b s = go_on b (past (prefix_len (λ c. not (c == 10)) (rest_of s)) s)
 step_by go levels options Comment b s = behind_comment (comment_length false 3 (drop 3 (rest_of s))) b s
 step_by go levels options (Repeat bounds) b s = repeat_at bounds b.repeats b s
 step_by go levels options Open b s = group_at go options s >>= add b
 step_by go levels options (Edge anchor size) b s = add b (items.At anchor ∷ [], past size s)
 step_by go levels options Number b s = add b (number_item options s)
 step_by go levels options Reference b s = reference_item options (drop 2 (rest_of s)) s >>= add b
-step_by go levels options Single b s = single_item options levels s >>= add b
+step_by go levels options Single b s = single_item options (100 - levels) s >>= add b
 
 abbrev pub step : Going → ℕ → Options → Body → Seen → Result Stepped Fault
 step go levels options b s = step_by go levels options (sight_at options (rest_of s)) b s

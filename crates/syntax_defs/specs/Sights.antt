@@ -1,6 +1,7 @@
 -- What stands at a place of a pattern text, by the characters from there on. The forms are those of Oniguruma's RE
 -- with Ruby syntax.
-use Rattle.std.specs.Prelude.{ℕ, ◌+◌, ◌-◌, ◌*◌, ◌==◌, min, List, [], ◌∷◌, length, drop, take_while, fold, Bool, true, false, ◌&&◌, ◌||◌, not, if◌then◌else◌, Option, Some, None}
+use Rattle.std.specs.Prelude.{ℕ, ◌+◌, ◌-◌, ◌*◌, ◌==◌, min, List, [], ◌∷◌, length, drop, take, fold, Bool, true, false, ◌&&◌, ◌||◌, not, if◌then◌else◌, Option, Some, None}
+use Rattle.std.specs.List.{prefix_len}
 use Rattle.std.specs.Char.{is_ascii_digit, digit_value}
 use Rattle.pattern_defs.specs.declared.nodes.Anchor.{Anchor}
 use Rattle.pattern_defs.specs.declared.nodes.Anchor.TheVariants.{LineStart, LineEnd, First, Mark, LastEnd, WordEdge, NoWordEdge}
@@ -15,8 +16,14 @@ use Rattle.syntax_defs.specs.declared.items.Sight.TheVariants.{End, Bar, Close, 
 -- decimal numbers
 
 -- the digits at the front
+abbrev pub digit_count : List ℕ → ℕ
+digit_count cs = prefix_len is_ascii_digit cs
+
 abbrev pub digits : List ℕ → List ℕ
-digits cs = take_while is_ascii_digit cs
+digits cs = take (digit_count cs) cs
+
+abbrev pub behind_digits : List ℕ → List ℕ
+behind_digits cs = drop (digit_count cs) cs
 
 -- a digit more behind a number; a million stands for each greater number
 abbrev pub with_digit : ℕ → ℕ → ℕ
@@ -57,12 +64,12 @@ count_sight least rest =
     if begins_with 125 rest && not (is_empty least)
     then bounds (number_of least) (Some (number_of least)) Count (length least + 2)
     else if begins_with 44 rest
-    then range_sight least (digits (drop 1 rest)) (drop (length (digits (drop 1 rest))) (drop 1 rest))
+    then range_sight least (digits (drop 1 rest)) (behind_digits (drop 1 rest))
     else Single
 
 -- A `{` is itself where it begins no interval.
 abbrev pub brace_sight : List ℕ → Sight
-brace_sight cs = count_sight (digits cs) (drop (length (digits cs)) cs)
+brace_sight cs = count_sight (digits cs) (behind_digits cs)
 
 -- behind a `(` and behind a backslash
 

@@ -1,32 +1,32 @@
--- Single characters and sets of a pattern text: the characters that are taken, as a test.
-use Rattle.std.specs.Prelude.{ℕ, ◌+◌, ◌==◌, List, [], ◌∷◌, Bool, true, false, not, ◌||◌, if◌then◌else◌, Result, Ok, Err}
-use Rattle.std.specs.Char.{is_ascii_alphanumeric, to_ascii_lowercase}
+-- Single characters and sets of a pattern text: which characters are taken, as a test.
+use Rattle.std.specs.Prelude.{ℕ, ◌+◌, ◌==◌, List, [], ◌∷◌, Bool, if◌then◌else◌, Result, Ok, Err}
 use Rattle.syntax_defs.specs.declared.items.Options.{Options}
-use Rattle.syntax_defs.specs.Reading.{Fault, Syntax, LeftOut, Read}
+use Rattle.syntax_defs.specs.Reading.{Fault, Syntax, Read, ◌>>=◌}
+use Rattle.syntax_defs.specs.Escapes.{Escaped, Char, Set, escape_at}
+use Rattle.syntax_defs.specs.Classes.{is_char_folded, is_dot, class_at}
 
--- the character itself, or each that has the same ASCII letter
-abbrev pub char_test : Bool → ℕ → ℕ → Bool
-char_test true c d = to_ascii_lowercase d == to_ascii_lowercase c
-char_test false c d = d == c
+-- what a single item begins with
+pub data Start : Type 0 where
+  Dot : Start
+  Slash : Start
+  Bracket : Start
+  Itself : Start
 
--- the dot: any character, or any but LF
-abbrev pub dot_test : Bool → ℕ → Bool
-dot_test dot_all d = dot_all || not (d == 10)
+abbrev pub start_of : ℕ → Start
+start_of c = if c == 46 then Dot else if c == 92 then Slash else if c == 91 then Bracket else Itself
 
-abbrev pub read_one : (ℕ → Bool) → ℕ → List ℕ → Result (Read (ℕ → Bool)) Fault
-read_one test place rest = Ok (record { value = test; place = place + 1; rest = rest })
+abbrev pub escaped_test : Bool → Escaped → ℕ → Bool
+escaped_test fold (Char c) = is_char_folded fold c
+escaped_test fold (Set test) = test
 
--- behind a backslash
-abbrev pub slash_at : Options → ℕ → List ℕ → Result (Read (ℕ → Bool)) Fault
-slash_at options place [] = Err (Syntax place)
-slash_at options place (c ∷ cs) =
-    if is_ascii_alphanumeric c then Err (LeftOut place) else read_one (char_test options.any_case c) (place + 1) cs
+abbrev pub single_by : Start → Options → (depth place c : ℕ) → List ℕ → Result (Read (ℕ → Bool)) Fault
+single_by Dot options depth place c cs = Ok (record { value = is_dot options.dot_all; place = place + 1; rest = cs })
+single_by Slash options depth place c cs =
+    escape_at place (c ∷ cs) >>= λ x. Ok (record { value = escaped_test options.any_case x.value; place = x.place; rest = x.rest })
+single_by Bracket options depth place c cs = class_at options.any_case depth place (c ∷ cs)
+single_by Itself options depth place c cs = Ok (record { value = is_char_folded options.any_case c; place = place + 1; rest = cs })
 
--- A single character or a set at a place, in which so many classes may nest.
-abbrev pub single_at : Options → (levels place : ℕ) → List ℕ → Result (Read (ℕ → Bool)) Fault
-single_at options levels place [] = Err (Syntax place)
-single_at options levels place (c ∷ cs) =
-    if c == 46 then read_one (dot_test options.dot_all) place cs
-    else if c == 92 then slash_at options place cs
-    else if c == 91 then Err (LeftOut place)
-    else read_one (char_test options.any_case c) place cs
+-- A single character or a set, inside so many groups.
+abbrev pub single_at : Options → (depth place : ℕ) → List ℕ → Result (Read (ℕ → Bool)) Fault
+single_at options depth place [] = Err (Syntax place)
+single_at options depth place (c ∷ cs) = single_by (start_of c) options depth place c cs

@@ -33,11 +33,11 @@ pub enum Target {
 /// One item of a pattern text, before it is known which groups the text has. The items in it stand in numbered lists.
 #[derive(Debug, Drop)]
 pub enum Item {
-    /// A single character or a set of characters, at this place of the text. So many classes may nest there.
+    /// A single character or a set of characters, at this place of the text and inside so many forms.
     One {
         at: usize,
         options: Options,
-        levels: u32,
+        depth: u32,
     },
     At(Anchor),
     Choice(ListIds),
