@@ -1,8 +1,12 @@
 //! Patterns: how they are kept, and how they are read from their text.
 #![tactic(auto)]
 
+mod body;
 pub mod draft;
+mod head;
 pub mod pattern;
+mod reader;
+mod sight;
 
 pub use char_sets::{CharRange, CharSet};
 pub use draft::PatternDraft;

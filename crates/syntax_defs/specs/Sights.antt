@@ -2,7 +2,7 @@
 -- with Ruby syntax.
 use Rattle.std.specs.Prelude.{ℕ, ◌+◌, ◌-◌, ◌*◌, ◌==◌, min, List, [], ◌∷◌, length, drop, take, fold, Bool, true, false, ◌&&◌, ◌||◌, not, if◌then◌else◌, Option, Some, None}
 use Rattle.std.specs.List.{prefix_len}
-use Rattle.std.specs.Char.{is_ascii_digit, digit_value}
+use Rattle.std.specs.Char.{is_ascii_digit}
 use Rattle.pattern_defs.specs.declared.nodes.Anchor.{Anchor}
 use Rattle.pattern_defs.specs.declared.nodes.Anchor.TheVariants.{LineStart, LineEnd, First, Mark, LastEnd, WordEdge, NoWordEdge}
 use Rattle.pattern_defs.specs.declared.nodes.Anchor.TheVariants as anchors
@@ -27,7 +27,7 @@ behind_digits cs = drop (digit_count cs) cs
 
 -- a digit more behind a number; a million stands for each greater number
 abbrev pub with_digit : ℕ → ℕ → ℕ
-with_digit n c = min (n * 10 + digit_value c) 1000000
+with_digit n c = min (n * 10 + (c - 48)) 1000000
 
 abbrev pub number_of : List ℕ → ℕ
 number_of cs = fold with_digit 0 cs
@@ -100,6 +100,10 @@ slash_sight (c ∷ cs) =
 abbrev pub is_blank : ℕ → Bool
 is_blank c = (c == 9) || ((c == 10) || ((c == 12) || ((c == 13) || (c == 32))))
 
+abbrev pub plain_sight : Options → ℕ → Sight
+plain_sight options c =
+    if options.spaced && is_blank c then Blank else if options.spaced && (c == 35) then Remark else Single
+
 abbrev pub sight_at : Options → List ℕ → Sight
 sight_at options [] = End
 sight_at options (c ∷ cs) =
@@ -113,6 +117,4 @@ sight_at options (c ∷ cs) =
     else if c == 94 then Edge LineStart 1
     else if c == 36 then Edge LineEnd 1
     else if c == 92 then slash_sight cs
-    else if options.spaced && is_blank c then Blank
-    else if options.spaced && (c == 35) then Remark
-    else Single
+    else plain_sight options c

@@ -1,3 +1,4 @@
+use std::alloc::{AllocError, AllocFailed};
 use thiserror::Error;
 
 /// Why a text is no pattern. Places count characters from 0. The forms are those of Oniguruma's RE with Ruby
@@ -18,4 +19,26 @@ pub enum PatternRefusal {
     TooLong { count: u64 },
     #[error("memory")]
     Memory,
+}
+
+impl From<AllocError> for PatternRefusal {
+    ghost use Rattle.std.specs.Prelude.{◌≡◌};
+    ghost use Rattle.syntax_defs.specs.declared.refusal.PatternRefusal.TheVariants.{Memory};
+
+    ghost from_gives = { λ _ e. e ≡ Memory };
+
+    fn from(_fault: AllocError) -> PatternRefusal {
+        PatternRefusal::Memory
+    }
+}
+
+impl<T: Drop> From<AllocFailed<T>> for PatternRefusal {
+    ghost use Rattle.std.specs.Prelude.{◌≡◌};
+    ghost use Rattle.syntax_defs.specs.declared.refusal.PatternRefusal.TheVariants.{Memory};
+
+    ghost from_gives = { λ _ e. e ≡ Memory };
+
+    fn from(_fault: AllocFailed<T>) -> PatternRefusal {
+        PatternRefusal::Memory
+    }
 }
