@@ -1,10 +1,15 @@
 -- What a reader answers, and where it stands then.
-use Rattle.std.specs.Prelude.{◌≡◌, Result, Ok, Err}
+use Rattle.std.specs.Prelude.{◌≡◌, Bool, Result, Ok, Err}
 use Rattle.syntax_defs.specs.declared.refusal.PatternRefusal.{PatternRefusal}
 use Rattle.syntax_defs.specs.Reading.{Fault, Fails}
-use Rattle.syntax_defs.specs.PatternSyntax.{Seen}
+use Rattle.syntax_defs.specs.PatternSyntax.{Seen, Body, Stepped}
 
 -- a value that contracts see by view, and how far the text is read then, are what reading gives, unless memory ran out
 abbrev pub GivesNow : {X Y : Type 0} → (X → Y) → Result X PatternRefusal → Seen → Result (Y × Seen) Fault → Type 0
 GivesNow view (Ok x) now read = read ≡ Ok (view x, now)
 GivesNow view (Err refusal) now read = Fails refusal read
+
+-- whether the body goes on, the body and how far the text is read then are what a step gives
+abbrev pub GivesStep : Result Bool PatternRefusal → Body → Seen → Result Stepped Fault → Type 0
+GivesStep (Ok more) body now read = read ≡ Ok (record { more = more; body = body; seen = now })
+GivesStep (Err refusal) body now read = Fails refusal read

@@ -1,6 +1,7 @@
-ghost use Rattle.std.specs.Prelude.{◌≡◌, ◌+◌, ◌<◌, ◌≤◌, [], ◌∷◌, ◌++◌, length, max, IfOk, OnOk, OnErr};
+ghost use Rattle.std.specs.Prelude.{◌≡◌, ◌<◌, ◌≤◌, [], ◌∷◌, ◌++◌, length, max, IfOk, OnOk, OnErr};
 ghost use Rattle.pattern_defs.specs.Patterns.{AreNodes};
 
+use crate::count::counted;
 use crate::pattern::Pattern;
 use pattern_defs::{ListId, PatNode};
 use std::alloc::{AllocError, Global};
@@ -25,17 +26,6 @@ impl Model for PatternDraft {
     ghost view = { drafted };
 
     ghost invariant = { IsDraft };
-}
-
-/// How many there are with so many more. 2^32 are more than memory has.
-fn counted(count: u32, more: usize) -> Result<u32, AllocError>
-    ensures { IfOk result (λ all. all ≡ count + more) }
-{
-    if more < (u32::MAX - count) as usize {
-        Ok(count + more as u32)
-    } else {
-        Err(AllocError)
-    }
 }
 
 impl PatternDraft {

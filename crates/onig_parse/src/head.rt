@@ -1,8 +1,9 @@
-ghost use Rattle.std.specs.Prelude.{◌≡◌, ◌+◌, ◌≤◌, length};
+ghost use Rattle.std.specs.Prelude.{◌≡◌, ◌+◌, ◌≤◌, drop, length};
 ghost use Rattle.std.specs.Char.{is_ascii_digit};
 ghost use Rattle.std.specs.List.{list_all};
 ghost use Rattle.syntax_defs.specs.Reading.{Answers};
 ghost use Rattle.syntax_defs.specs.Heads.{angle_head, behind_letters, behind_word, closed_word, head_at, inside, is_name, is_name_or_number, is_number, letter_count, letter_head, letters, minus_head, named_head, option_end, option_head, question_head, switched, with_options, word, word_at, word_count};
+ghost use Rattle.syntax_defs.specs.PatternSyntax.{word_from};
 ghost use Rattle.syntax_defs.specs.Sights.{is_empty, is_number_start};
 
 use crate::sight::begins_with;
@@ -58,6 +59,21 @@ fn split_word(cs: &[char]) -> (&[char], &[char])
     ensures back { result.1.now ≡ behind_word cs.now }
 {
     cs.split_at(word_count(cs))
+}
+
+/// What stands behind so many characters.
+pub(crate) fn behind(cs: &[char], count: usize) -> &[char]
+    ensures { result.now ≡ drop count cs.now }
+{
+    let count = count.min(cs.len());
+    &cs[count..]
+}
+
+/// The word characters from a place on.
+pub(crate) fn word_from(text: &[char], from: usize) -> &[char]
+    ensures { result.now ≡ word_from text.now from }
+{
+    split_word(behind(text, from)).0
 }
 
 /// Whether a name may begin so.

@@ -2,11 +2,13 @@
 #![tactic(auto)]
 
 mod body;
+mod count;
 pub mod draft;
 mod head;
 pub mod pattern;
 mod reader;
 mod sight;
+mod steps;
 
 pub use char_sets::{CharRange, CharSet};
 pub use draft::PatternDraft;

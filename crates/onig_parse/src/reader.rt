@@ -1,10 +1,13 @@
 ghost use Rattle.std.specs.Prelude.{◌≡◌, ◌+◌, ◌≤◌, [], ◌∷◌, ◌++◌, length, slice_get, IfOk, OnOk};
-ghost use Rattle.syntax_defs.specs.PatternSyntax.{at_place, next_id, past, rest_of, start, with_list};
+ghost use Rattle.std.specs.List.{list_any};
+ghost use Rattle.syntax_defs.specs.PatternSyntax.{at_place, is_named, next_id, past, rest_of, start, with_group, with_list};
 
+use crate::count::counted;
+use crate::head::word_from;
 use pattern_defs::ListId;
 use std::alloc::{AllocError, Global};
 use std::marker::Model;
-use syntax_defs::{GroupName, Item};
+use syntax_defs::{GroupName, Item, Span};
 
 /// A pattern text that is being read from left to right: the place of the next character, the lists of items that
 /// have ended, and how many numbered groups have begun, with their names.
@@ -28,17 +31,6 @@ impl Model for Reader {
     ghost view = { seen_of };
 
     ghost invariant = { IsReader };
-}
-
-/// How many there are with so many more. 2^32 are more than memory has.
-pub(crate) fn counted(count: u32, more: usize) -> Result<u32, AllocError>
-    ensures { IfOk result (λ all. all ≡ count + more) }
-{
-    if more < (u32::MAX - count) as usize {
-        Ok(count + more as u32)
-    } else {
-        Err(AllocError)
-    }
 }
 
 impl Reader {
@@ -94,10 +86,9 @@ impl Reader {
 
     /// Goes so many characters on, and at most to the end.
     pub(crate) fn pass(&mut self, count: usize)
-        requires { count ≤ 1_000_000 }
         ensures { self.new ≡ past count self.old }
     {
-        self.go_to(self.at + count);
+        self.go_to(self.at.saturating_add(count));
     }
 
     /// Ends a list, which has the next number.
@@ -109,4 +100,37 @@ impl Reader {
         self.lists.push(items)?;
         Ok(ListId(number))
     }
+
+    /// A numbered group begins.
+    pub(crate) fn begin_group(&mut self, name: Option<Span>) -> Result<(), AllocError>
+        ensures { OnOk result (self.new ≡ with_group name self.old) }
+    {
+        let number = counted(self.groups, 1)?;
+        if let Some(name) = name {
+            self.names.push(GroupName { name, number })?;
+        }
+        self.groups = number;
+        Ok(())
+    }
+
+    /// How many numbered groups have begun.
+    pub(crate) fn groups(&self) -> u32
+        ensures { result ≡ self.now.groups }
+    {
+        self.groups
+    }
+
+    /// Whether a group has this name.
+    pub(crate) fn has_name(&self, name: Span) -> bool
+        ensures { result ≡ list_any (is_named self.now.text name) self.now.names }
+    {
+        self.names.iter().any(|known| is_named(self.text(), name, known))
+    }
+}
+
+/// Whether a name is that of a group.
+pub(crate) fn is_named(text: &[char], name: Span, known: &GroupName) -> bool
+    ensures { result ≡ is_named text.now name known.now }
+{
+    word_from(text, known.name.from) == word_from(text, name.from)
 }

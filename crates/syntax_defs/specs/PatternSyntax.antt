@@ -1,7 +1,8 @@
 -- Reading a pattern text from left to right: its items in numbered lists, or the first fault. Lists are numbered in
 -- the order in which they end, which is this project's own, as are the limits.
-use Rattle.std.specs.Prelude.{ℕ, zero, suc, ◌+◌, ◌-◌, ◌==◌, nat_lt, nat_eq, List, [], ◌∷◌, ◌++◌, length, drop, min, slice_get, slice_range, Bool, true, false, ◌&&◌, ◌||◌, not, if◌then◌else◌, Option, Some, None, Result, Ok, Err}
-use Rattle.std.specs.List.{list_any, starts_with, prefix_len}
+use Rattle.std.specs.Prelude.{ℕ, zero, suc, ◌+◌, ◌-◌, ◌==◌, nat_lt, nat_le, List, [], ◌∷◌, ◌++◌, length, drop, min, Bool, true, false, ◌&&◌, ◌||◌, not, if◌then◌else◌, Option, Some, None, Result, Ok, Err}
+use Rattle.std.specs.List.{list_any, prefix_len}
+use Rattle.std.specs.Str.{bytes_eq}
 use Rattle.pattern_defs.specs.declared.nodes.ListId.{ListId}
 use Rattle.syntax_defs.specs.declared.items.Options.{Options}
 use Rattle.syntax_defs.specs.declared.items.Span.{Span}
@@ -19,7 +20,7 @@ use Rattle.syntax_defs.specs.declared.items.Head.{Head}
 use Rattle.syntax_defs.specs.declared.items.Head.TheVariants.{Numbered, Plain, Rest, Ahead, Behind, Atomic}
 use Rattle.syntax_defs.specs.Reading.{Fault, Syntax, LeftOut, TooDeep, TooLong, Read, ◌>>=◌}
 use Rattle.syntax_defs.specs.Sights.{digits, digit_count, number_of, begins_with, sight_at}
-use Rattle.syntax_defs.specs.Heads.{word_at, is_name_or_number, is_number, head_at, inside}
+use Rattle.syntax_defs.specs.Heads.{word, word_at, is_name_or_number, is_number, head_at, inside}
 use Rattle.syntax_defs.specs.Singles.{single_at}
 
 -- How far a text is read: the place of the next character, the lists that have ended, and how many groups have
@@ -128,24 +129,30 @@ abbrev pub is_possessive : Form → List ℕ → Bool
 is_possessive Sign cs = begins_with 43 cs
 is_possessive _ cs = false
 
-abbrev pub repeated : Bounds → Bool → ListId → List Item
-repeated bounds greedy body = items.Repeat body bounds.least bounds.most greedy ∷ []
+-- the last item repeated, behind so many characters more
+abbrev pub plain_repeat : Bounds → (greedy : Bool) → (more count : ℕ) → Body → Seen → Result Stepped Fault
+plain_repeat bounds greedy more count b s =
+    go_on (record b { last = items.Repeat (next_id s) bounds.least bounds.most greedy ∷ []; repeats = Some (count + 1) })
+    (past (bounds.length + more) (with_list b.last s))
+
+abbrev pub atomic_of : Bounds → ListId → ℕ → Body → Seen → Result Stepped Fault
+atomic_of bounds id count b s =
+    go_on (record b { last = items.Atomic (next_id s) ∷ []; repeats = Some (count + 1) })
+    (past (bounds.length + 1) (with_list (items.Repeat id bounds.least bounds.most true ∷ []) s))
+
+abbrev pub possessive_repeat : Bounds → ℕ → Body → Seen → Result Stepped Fault
+possessive_repeat bounds count b s = atomic_of bounds (next_id s) count b (with_list b.last s)
 
 -- the last item repeated, the number of repeats on it given
 abbrev pub signed : (lazy possessive : Bool) → Bounds → ℕ → Body → Seen → Result Stepped Fault
-signed false false bounds count b s =
-    go_on (record b { last = repeated bounds true (next_id s); repeats = Some (count + 1) }) (past bounds.length (with_list b.last s))
-signed true _ bounds count b s =
-    go_on (record b { last = repeated bounds false (next_id s); repeats = Some (count + 1) }) (past (bounds.length + 1) (with_list b.last s))
-signed false true bounds count b s =
-    let inner = with_list b.last s in
-    go_on (record b { last = items.Atomic (next_id inner) ∷ []; repeats = Some (count + 1) })
-    (past (bounds.length + 1) (with_list (repeated bounds true (next_id s)) inner))
+signed false false bounds count b s = plain_repeat bounds true 0 count b s
+signed true possessive bounds count b s = plain_repeat bounds false 1 count b s
+signed false true bounds count b s = possessive_repeat bounds count b s
 
 abbrev pub repeat_on : Bounds → List ℕ → ℕ → Body → Seen → Result Stepped Fault
 repeat_on bounds behind count b s =
     if nat_lt 100000 bounds.least || is_above 100000 bounds.most then Err (Syntax s.place)
-    else if count == 8 then Err (TooDeep 9)
+    else if nat_le 8 count then Err (TooDeep 9)
     else if is_below bounds.most bounds.least then Err (LeftOut s.place)
     else signed (is_lazy bounds.form behind) (is_possessive bounds.form behind) bounds count b s
 
@@ -170,10 +177,17 @@ behind_comment (Some count) b s = go_on b (past count s)
 abbrev pub back : ℕ → Target → Options → List Item
 back at target options = items.Back at target options.any_case ∷ []
 
+-- the word characters from a place on
+abbrev pub word_from : List ℕ → ℕ → List ℕ
+word_from text from = word (drop from text)
+
 -- a word that is a number, or is none
+abbrev pub target_by : Bool → List ℕ → Span → Target
+target_by true word span = targets.Number (number_of word)
+target_by false word span = targets.Name span
+
 abbrev pub target_of : List ℕ → Span → Target
-target_of text span =
-    if is_number (slice_range text span.from span.to) then targets.Number (number_of (slice_range text span.from span.to)) else targets.Name span
+target_of text span = target_by (is_number (word_from text span.from)) (word_from text span.from) span
 
 -- a backslash and a number
 abbrev pub number_item : Options → Seen → (List Item × Seen)
@@ -194,8 +208,7 @@ reference_item options (c ∷ cs) s =
 -- groups
 
 abbrev pub is_named : List ℕ → Span → GroupName → Bool
-is_named text name known = starts_with nat_eq (slice_range text name.from name.to) (slice_range text known.name.from known.name.to)
-    && ((name.to - name.from) == (known.name.to - known.name.from))
+is_named text name known = bytes_eq (word_from text known.name.from) (word_from text name.from)
 
 -- a numbered group that begins
 abbrev pub with_group : Option Span → Seen → Seen
