@@ -1,10 +1,10 @@
 -- A set that is read off from one stretch of codes to the next.
-use Rattle.std.proofs.Common.{◌≡◌, ℕ, ◌+◌, ◌-◌, ◌<◌, ◌≤◌, Bool, true, false, ◌&&◌, ◌||◌, not, nat_le, List, [], ◌∷◌, ◌++◌, refl, sym, ap, subst, ◌∙◌, arith, inl, inr, le-leb}
+use Rattle.std.proofs.Common.{◌≡◌, ℕ, ◌-◌, ◌<◌, ◌≤◌, Bool, true, false, ◌&&◌, ◌||◌, not, nat_le, List, [], ◌∷◌, ◌++◌, refl, sym, ap, subst, ◌∙◌, arith, inl, inr, le-leb, lt-ltb, le-ltb}
 use Rattle.std.proofs.lemmas.Bool.{cases_lt, lt-leb}
 use Rattle.std.proofs.lemmas.List.Folds.{list_any-append}
-use Rattle.char_sets.specs.Ranges.{in_range, in_set, rises, IsSetOf}
+use Rattle.char_sets.specs.Ranges.{in_range, in_set, rises, closed, IsSetOf}
 use Rattle.char_sets.specs.declared.char_set.CharRange.{CharRange}
-use Rattle.char_sets.proofs.Rising.{after_all, after_all-nil, after_all-append, in_set-after, rises-append, rises-nil, in_range-below, in_range-above, in_range-inside}
+use Rattle.char_sets.proofs.Rising.{after_all, after_all-nil, after_all-append, in_set-after, rises-append, rises-nil}
 
 pub or-true : (b : Bool) → (b || true) ≡ true
 or-true true = refl
@@ -49,39 +49,16 @@ Joined-more ranges start at end p h further within all =
       started = omega arith;
       within = within;
       members = λ c lt.
-      elim (cases_lt c at) [
-        | inl below ↦ h.members c below
-        | inr above ↦
-          let from : start ≤ c = omega arith in
-          all c above lt ∙ sym (ap (λ b. in_set ranges c || b) (le-leb start c from) ∙ or-true (in_set ranges c))
-      ];
+          elim (cases_lt c at) [
+            | inl below ↦ h.members c below
+            | inr above ↦
+                let from : start ≤ c = omega arith in
+                all c above lt ∙ sym (ap (λ b. in_set ranges c || b) (le-leb start c from) ∙ or-true (in_set ranges c))
+          ];
     }
 
--- a stretch of others, where no range is start
-pub Joined-gap : (ranges : List CharRange) (start at end : ℕ) (p : ℕ → Bool) → Joined ranges start at p → at ≤ start → at < end → end ≤ 1_114_112 → ((c : ℕ) → at ≤ c → c < end → p c ≡ false) → Joined ranges end end p
-Joined-gap ranges start at end p h closed further within none =
-    let before = h.before in
-    let started = h.started in
-    record {
-      rising = h.rising;
-      before = omega arith;
-      started = omega arith;
-      within = within;
-      members = λ c lt.
-      let not_open : (in_set ranges c || nat_le end c) ≡ in_set ranges c =
-      ap (λ b. in_set ranges c || b) (lt-leb end c lt) ∙ or-false (in_set ranges c) in
-      elim (cases_lt c at) [
-        | inl below ↦
-          let early : c < start = omega arith in
-          h.members c below ∙ ap (λ b. in_set ranges c || b) (lt-leb start c early) ∙ or-false (in_set ranges c) ∙ sym not_open
-        | inr above ↦
-          let late : after_all 0 ranges ≤ c = omega arith in
-          none c above lt ∙ sym (not_open ∙ in_set-after 0 ranges c h.rising late)
-      ];
-    }
-
--- the range that was start, written
-pub Joined-written : (ranges : List CharRange) (start at : ℕ) (p : ℕ → Bool) → Joined ranges start at p → start < at → Joined (ranges ++ record { first = start; last = at - 1 } ∷ []) at at p
+-- the range that was open, written
+Joined-written : (ranges : List CharRange) (start at : ℕ) (p : ℕ → Bool) → Joined ranges start at p → start < at → Joined (ranges ++ record { first = start; last = at - 1 } ∷ []) at at p
 Joined-written ranges start at p h opened =
     let within = h.within in
     let r : CharRange = record { first = start; last = at - 1 } in
@@ -92,27 +69,50 @@ Joined-written ranges start at p h opened =
       started = omega arith;
       within = h.within;
       members = λ c lt.
-      let end : in_range c r ≡ nat_le start c =
-      ap (λ b. nat_le start c && b) (le-leb c (at - 1) (omega arith)) ∙ and-true (nat_le start c) in
-      h.members c lt
-      ∙ sym
-      (ap (λ b. in_set (ranges ++ r ∷ []) c || b) (lt-leb at c lt)
-      ∙ or-false (in_set (ranges ++ r ∷ []) c)
-      ∙ list_any-append (in_range c) ranges (r ∷ [])
-      ∙ ap (λ b. in_set ranges c || b) (or-false (in_range c r) ∙ end));
+          let end : in_range c r ≡ nat_le start c =
+          ap (λ b. nat_le start c && b) (le-leb c (at - 1) (omega arith)) ∙ and-true (nat_le start c) in
+          h.members c lt
+          ∙ sym
+          (ap (λ b. in_set (ranges ++ r ∷ []) c || b) (lt-leb at c lt)
+          ∙ or-false (in_set (ranges ++ r ∷ []) c)
+          ∙ list_any-append (in_range c) ranges (r ∷ [])
+          ∙ ap (λ b. in_set ranges c || b) (or-false (in_range c r) ∙ end));
     }
 
--- the range that was open up to the end of all codes, written
-pub Joined-last : (ranges : List CharRange) (start at : ℕ) (p : ℕ → Bool) → Joined ranges start at p → 1_114_112 ≤ at → start < 1_114_112 → Joined (ranges ++ record { first = start; last = 1_114_111 } ∷ []) 1_114_112 1_114_112 p
-Joined-last ranges start at p h ended opened =
-    let within = h.within in
-    let end : at ≡ 1_114_112 = omega arith in
-    let here : Joined ranges start 1_114_112 p = subst (λ n. Joined ranges start n p) end h in
-    Joined-written ranges start 1_114_112 p here opened
-
--- where the place is the end of all codes and no range is start, the ranges are the set
-pub Joined-done : (ranges : List CharRange) (start at : ℕ) (p : ℕ → Bool) → Joined ranges start at p → 1_114_112 ≤ start → IsSetOf ranges p
-Joined-done ranges start at p h closed c lt =
+-- the range that was open, if any, written
+pub Joined-closed : (ranges : List CharRange) (start at : ℕ) (p : ℕ → Bool) → Joined ranges start at p → Joined (closed ranges start at) at at p
+unfolding closed
+Joined-closed ranges start at p h =
     let started = h.started in
-    let early : c < start = omega arith in
-    sym (h.members c (omega arith) ∙ ap (λ b. in_set ranges c || b) (lt-leb start c early) ∙ or-false (in_set ranges c))
+    elim (cases_lt start at) [
+      | inl opened ↦ rw (lt-ltb start at opened) (Joined-written ranges start at p h opened)
+      | inr none ↦
+          let same : start ≡ at = omega arith in
+          rw (le-ltb start at none) (subst (λ n. Joined ranges n at p) same h)
+    ]
+
+-- a stretch of others, where no range is open
+pub Joined-gap : (ranges : List CharRange) (at end : ℕ) (p : ℕ → Bool) → Joined ranges at at p → at < end → end ≤ 1_114_112 → ((c : ℕ) → at ≤ c → c < end → p c ≡ false) → Joined ranges end end p
+Joined-gap ranges at end p h further within none =
+    let before = h.before in
+    record {
+      rising = h.rising;
+      before = omega arith;
+      started = omega arith;
+      within = within;
+      members = λ c lt.
+          let not_open : (in_set ranges c || nat_le end c) ≡ in_set ranges c =
+          ap (λ b. in_set ranges c || b) (lt-leb end c lt) ∙ or-false (in_set ranges c) in
+          elim (cases_lt c at) [
+            | inl below ↦ h.members c below ∙ ap (λ b. in_set ranges c || b) (lt-leb at c below) ∙ or-false (in_set ranges c) ∙ sym not_open
+            | inr above ↦
+                let late : after_all 0 ranges ≤ c = omega arith in
+                none c above lt ∙ sym (not_open ∙ in_set-after 0 ranges c h.rising late)
+          ];
+    }
+
+-- where the place is the end of all codes and no range is open, the ranges are the set
+pub Joined-done : (ranges : List CharRange) (at : ℕ) (p : ℕ → Bool) → Joined ranges at at p → 1_114_112 ≤ at → IsSetOf ranges p
+Joined-done ranges at p h ended c lt =
+    let early : c < at = omega arith in
+    sym (h.members c early ∙ ap (λ b. in_set ranges c || b) (lt-leb at c early) ∙ or-false (in_set ranges c))

@@ -1,5 +1,5 @@
 -- The characters whose other case is in a set, gathered one after the other.
-use Rattle.std.proofs.Common.{◌≡◌, ℕ, ◌+◌, ◌<◌, ◌≤◌, Bool, true, false, ◌||◌, List, [], ◌∷◌, ◌++◌, refl, sym, ap, subst, ◌∙◌, arith, inl, inr, le_refl}
+use Rattle.std.proofs.Common.{◌≡◌, ℕ, ◌+◌, ◌<◌, ◌≤◌, true, false, ◌||◌, List, [], ◌∷◌, ◌++◌, sym, ap, subst, ◌∙◌, arith, inl, inr, le_refl}
 use Rattle.std.proofs.lemmas.Bool.{cases_lt}
 use Rattle.std.proofs.lemmas.List.Folds.{list_any-append}
 use Rattle.char_sets.specs.Ranges.{in_range, in_set, rises}
@@ -28,12 +28,12 @@ Letters-skip out code ranges h none =
       rising = h.rising;
       before = omega arith;
       members = λ c lt.
-      elim (cases_lt c code) [
-        | inl below ↦ h.members c below
-        | inr above ↦
-          let same : code ≡ c = omega arith in
-          subst (λ d. in_set out d ≡ in_set ranges (other_case d)) same (in_set-after 0 out code h.rising h.before ∙ sym none)
-      ];
+          elim (cases_lt c code) [
+            | inl below ↦ h.members c below
+            | inr above ↦
+                let same : code ≡ c = omega arith in
+                subst (λ d. in_set out d ≡ in_set ranges (other_case d)) same (in_set-after 0 out code h.rising h.before ∙ sym none)
+          ];
     }
 
 pub Letters-push : (out : List CharRange) (code : ℕ) (ranges : List CharRange) → Letters out code ranges → code < 128 → in_set ranges (other_case code) ≡ true → Letters (out ++ record { first = code; last = code } ∷ []) (code + 1) ranges
@@ -44,15 +44,15 @@ Letters-push out code ranges h ascii some =
       rising = rises-append 0 out r h.rising h.before (le_refl code) (omega arith);
       before = omega arith;
       members = λ c lt.
-      list_any-append (in_range c) out (r ∷ [])
-      ∙ ap (λ b. in_set out c || b) (or-false (in_range c r))
-      ∙ elim (cases_lt c code) [
-        | inl below ↦ ap (λ b. in_set out c || b) (in_range-below c r below) ∙ or-false (in_set out c) ∙ h.members c below
-        | inr above ↦
-          let low : code ≤ c = above in
-          let high : c ≤ code = omega arith in
-          let same : code ≡ c = omega arith in
-          ap (λ b. in_set out c || b) (in_range-inside c r low high) ∙ or-true (in_set out c)
-          ∙ subst (λ d. true ≡ in_set ranges (other_case d)) same (sym some)
-      ];
+          list_any-append (in_range c) out (r ∷ [])
+          ∙ ap (λ b. in_set out c || b) (or-false (in_range c r))
+          ∙ elim (cases_lt c code) [
+            | inl below ↦ ap (λ b. in_set out c || b) (in_range-below c r below) ∙ or-false (in_set out c) ∙ h.members c below
+            | inr above ↦
+                let low : code ≤ c = above in
+                let high : c ≤ code = omega arith in
+                let same : code ≡ c = omega arith in
+                ap (λ b. in_set out c || b) (in_range-inside c r low high) ∙ or-true (in_set out c)
+                ∙ subst (λ d. true ≡ in_set ranges (other_case d)) same (sym some)
+          ];
     }

@@ -1,5 +1,5 @@
 -- Ranges that rise.
-use Rattle.std.proofs.Common.{◌≡◌, ℕ, zero, suc, ◌+◌, ◌<◌, ◌≤◌, Bool, true, false, ◌&&◌, ◌||◌, nat_le, List, [], ◌∷◌, ◌++◌, length, drop, get_or, refl, sym, ap, ◌∙◌, arith, leb-true, le-leb, not-suc-le-zero, le_of_suc-le-suc, le_refl, add-one, drop-cons}
+use Rattle.std.proofs.Common.{◌≡◌, ℕ, zero, suc, ◌+◌, ◌<◌, ◌≤◌, true, false, ◌&&◌, nat_le, List, [], ◌∷◌, ◌++◌, length, drop, get_or, refl, sym, ap, ◌∙◌, arith, leb-true, le-leb, not-suc-le-zero, le_of_suc-le-suc, le_refl, add-one, drop-cons}
 use Rattle.std.proofs.lemmas.Bool.{and_parts, and_left, and_right, lt-leb}
 use Rattle.char_sets.specs.Ranges.{in_range, in_set, is_range_from, rises}
 use Rattle.char_sets.specs.declared.char_set.CharRange.{CharRange}

@@ -1,5 +1,5 @@
 -- Which characters a list of ranges has, by their codes.
-use Rattle.std.specs.Prelude.{◌≡◌, ◌<◌, ◌+◌, ℕ, Bool, true, false, ◌&&◌, nat_le, List, [], ◌∷◌}
+use Rattle.std.specs.Prelude.{◌≡◌, ◌<◌, ◌+◌, ◌-◌, ℕ, Bool, true, false, ◌&&◌, nat_le, nat_lt, List, [], ◌∷◌, ◌++◌, if◌then◌else◌}
 use Rattle.std.specs.List.{list_any}
 use Rattle.std.specs.Int.{bit_at}
 use Rattle.char_sets.specs.declared.char_set.CharRange.{CharRange}
@@ -32,3 +32,7 @@ bit false = 0
 -- the 64 bits say which of the 64 codes from the first on are in the ranges
 abbrev pub AreBitsOf : ℕ → List CharRange → ℕ → Type 0
 AreBitsOf word ranges first = (k : ℕ) → k < 64 → bit_at word k ≡ bit (in_set ranges (first + k))
+
+-- the ranges with one more at the end, of the codes from `start` up to `at`
+unfoldable pub closed : List CharRange → ℕ → ℕ → List CharRange
+closed ranges start at = if nat_lt start at then ranges ++ record { first = start; last = at - 1 } ∷ [] else ranges

@@ -4,7 +4,7 @@ ghost use Rattle.char_sets.specs.Case.{other_case, in_either_case};
 ghost use Rattle.char_sets.specs.Keep.{kept};
 
 use crate::char_set::{CharRange, CharSet};
-use crate::stretch::{END, Stretch, has_code, stretch_at};
+use crate::stretch::{END, Stretch, close, has_code, stretch_at};
 use std::alloc::{AllocError, Global};
 
 /// What a set made of two has.
@@ -50,8 +50,8 @@ fn joined_at(a: &[CharRange], b: &[CharRange], keep: Keep, code: u32) -> Stretch
     }
 }
 
-/// The ranges of what two have together. It goes over the codes from one stretch to the next; `start` is where the
-/// range that isn't yet written began.
+/// The set made of two. It goes over the codes from one stretch to the next; `start` is where the range that isn't
+/// yet written began.
 pub(crate) fn joined(
     alloc: Global,
     a: &[CharRange],
@@ -68,22 +68,12 @@ pub(crate) fn joined(
     while at < END {
         let next = joined_at(a, b, keep, at);
         if !next.has {
-            if start < at {
-                ranges.push(CharRange {
-                    first: start,
-                    last: at - 1,
-                })?;
-            }
+            close(&mut ranges, start, at)?;
             start = next.end;
         }
         at = next.end;
     }
-    if start < END {
-        ranges.push(CharRange {
-            first: start,
-            last: END - 1,
-        })?;
-    }
+    close(&mut ranges, start, at)?;
     Ok(CharSet::of_ranges(ranges))
 }
 

@@ -1,8 +1,9 @@
-ghost use Rattle.std.specs.Prelude.{◌≡◌, ◌≤◌, ◌<◌, ℕ, true, length, drop, slice_index_or};
-ghost use Rattle.char_sets.specs.Ranges.{in_set, rises};
+ghost use Rattle.std.specs.Prelude.{◌≡◌, ◌≤◌, ◌<◌, ℕ, true, length, drop, slice_index_or, OnOk};
+ghost use Rattle.char_sets.specs.Ranges.{in_set, rises, closed};
 ghost use Rattle.char_sets.specs.declared.char_set.CharRange.{CharRange};
 
 use crate::char_set::CharRange;
+use std::alloc::AllocError;
 
 /// One above the greatest code.
 pub(crate) const END: u32 = 0x11_0000;
@@ -70,4 +71,17 @@ pub(crate) fn has_code(ranges: &[CharRange], code: u32) -> bool
     ensures { result ≡ in_set ranges.now code }
 {
     stretch_at(ranges, code).has
+}
+
+/// Writes the range from `start` up to `at`, where it has a member.
+pub(crate) fn close(ranges: &mut Vec<CharRange>, start: u32, at: u32) -> Result<(), AllocError>
+    ensures { OnOk result (ranges.new.items ≡ closed ranges.old.items start at) }
+{
+    if start < at {
+        ranges.push(CharRange {
+            first: start,
+            last: at - 1,
+        })?;
+    }
+    Ok(())
 }

@@ -152,7 +152,7 @@ with_sign negated set = option_map (λ s. (s, negated)) set
 
 unfoldable pub property_by : (negated : Bool) → List ℕ → Option (NamedSet × Bool)
 property_by true name = with_sign true (named_property name)
-property_by false [] = None
+property_by false [] = with_sign false (named_property [])
 property_by false (c ∷ name) =
     if c == 94 then with_sign true (named_property name) else with_sign false (named_property (c ∷ name))
 
@@ -203,7 +203,7 @@ unicode_at place rest =
     let count = hex_count 4 rest in
     if count == 0 then Err (Syntax place)
     else if nat_lt count 4 then Err (LeftOut place)
-    else scalar_or_fault place (hex_value (take count rest)) (place + 6) (drop count rest)
+    else scalar_or_fault place (hex_value (take count rest)) (place + 2 + count) (drop count rest)
 
 -- the closing brace of `\x{H}`, behind so many digits
 abbrev pub brace_at : (place code next : ℕ) → List ℕ → Escape
@@ -212,11 +212,11 @@ brace_at place code next (c ∷ rest) = if c == 125 then scalar_or_fault place c
 
 -- `\x{H}` with at most eight digits, what stands behind the `{` given
 unfoldable pub braced_at : (place : ℕ) → List ℕ → Escape
-braced_at place [] = Err (Syntax (place + 3))
-braced_at place (c ∷ rest) =
-    let count = hex_count 8 (c ∷ rest) in
-    if count == 0 then Err (Syntax place)
-    else brace_at place (hex_value (take count (c ∷ rest))) (place + 3 + count) (drop count (c ∷ rest))
+braced_at place rest =
+    let count = hex_count 8 rest in
+    if length rest == 0 then Err (Syntax (place + 3))
+    else if count == 0 then Err (Syntax place)
+    else brace_at place (hex_value (take count rest)) (place + 3 + count) (drop count rest)
 
 -- behind `\x`
 unfoldable pub hex_at : (place : ℕ) → List ℕ → Escape

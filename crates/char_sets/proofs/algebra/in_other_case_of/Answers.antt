@@ -1,8 +1,6 @@
-use Rattle.std.proofs.Common.{◌≡◌, ◌<◌, ◌≤◌, ◌+◌, ◌++◌, ◌∷◌, [], ◌||◌, ap, sym, subst, ◌∙◌, arith, inl, inr, refl, true, false, ℕ, List}
-use Rattle.char_sets.specs.Ranges.{in_set, rises, in_range}
-use Rattle.char_sets.specs.Case.{other_case}
-use Rattle.char_sets.specs.declared.char_set.CharRange.{CharRange}
-use Rattle.char_sets.proofs.Rising.{after_all, after_all-nil, rises-nil, in_set-after}
+use Rattle.std.proofs.Common.{◌+◌, ap, sym, subst, ◌∙◌, arith}
+use Rattle.char_sets.specs.Ranges.{in_set}
+use Rattle.char_sets.proofs.Rising.{in_set-after}
 use Rattle.char_sets.proofs.Letters.{Letters, Letters-nil, Letters-push, Letters-skip}
 use Rattle.char_sets.proofs.algebra.in_other_case_of.Goals.{then-has_code+in_ok-push, else-has_code}
 use Rattle.char_sets.proofs.algebra.in_other_case_of.Goals as goal
@@ -17,11 +15,11 @@ loop-code-preserved c =
     let member = ap (in_set ranges) (sym c.in_other_case.ensures.value) ∙ sym c.has_code.ensures in
     elim c.if-has_code.branch [
       | then-has_code+in_ok-push w ↦
-        subst (λ rs. Letters rs (code + 1) ranges) (sym (ap (λ v. v.items) w.out-is ∙ w.in_ok-push.ensures.items))
-        (Letters-push c.loop-code.out.items code ranges c.loop-code.invariant c.loop-code-test.true (member ∙ w.if-has_code.true))
+          subst (λ rs. Letters rs (code + 1) ranges) (sym (ap (λ v. v.items) w.out-is ∙ w.in_ok-push.ensures.items))
+          (Letters-push c.loop-code.out.items code ranges c.loop-code.invariant c.loop-code-test.true (member ∙ w.if-has_code.true))
       | else-has_code w ↦
-        subst (λ rs. Letters rs (code + 1) ranges) (sym (ap (λ v. v.items) w.out-is))
-        (Letters-skip c.loop-code.out.items code ranges c.loop-code.invariant (member ∙ w.if-has_code.false))
+          subst (λ rs. Letters rs (code + 1) ranges) (sym (ap (λ v. v.items) w.out-is))
+          (Letters-skip c.loop-code.out.items code ranges c.loop-code.invariant (member ∙ w.if-has_code.false))
     ]
 
 pub returns-clause-others : goal.returns-clause-others

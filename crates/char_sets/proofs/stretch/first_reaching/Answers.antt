@@ -12,6 +12,6 @@ loop-low-preserved-then-ranges-mid c =
       ordered = omega arith;
       within = inv.within;
       before = λ d le.
-      in_set-beyond c.args.ranges.now mid d (record { first = 0; last = 0 }) c.requires (omega arith) (omega arith);
+          in_set-beyond c.args.ranges.now mid d (record { first = 0; last = 0 }) c.requires (omega arith) (omega arith);
       reaches = inv.reaches;
     }

@@ -1,4 +1,4 @@
-use Rattle.std.proofs.Common.{◌≤◌, ◌++◌, ◌∷◌, [], ap, ◌∙◌, arith}
+use Rattle.std.proofs.Common.{◌++◌, ◌∷◌, [], ap, ◌∙◌, arith}
 use Rattle.char_sets.specs.Ranges.{rises}
 use Rattle.char_sets.specs.declared.char_set.CharRange.{CharRange}
 use Rattle.char_sets.proofs.Rising.{rises-one}

@@ -1,0 +1,21 @@
+-- What escapes and names are, in the cases that the code tells apart.
+use Rattle.std.proofs.Common.{◌≡◌, ℕ, zero, suc, ◌+◌, ◌<◌, ◌≤◌, List, [], ◌∷◌, length, get_or, take, drop, Bool, true, false, refl, ap, sym, subst, arith, ◌≢◌, Option, Some, None}
+use Rattle.std.specs.Option.{option_map, option_or}
+use Rattle.std.proofs.lemmas.Grind.{common_steps}
+use Rattle.char_sets.specs.declared.named.NamedSet.{NamedSet}
+use Rattle.char_sets.specs.declared.named.NamedSet.TheVariants as sets
+use Rattle.syntax_defs.specs.Escapes.{Escape, hex_count, hex_value, scalar_or_fault, unicode_at, braced_at, by_plain_name, group_by_letter, category_by, group_by_word, named_bracket, named_property, property_by, with_sign}
+
+pub two_letters : (name : List ℕ) (a b : ℕ) → 2 ≤ length name → length name < 3 → a ≡ get_or name 0 a → b ≡ get_or name 1 b → by_plain_name name ≡ option_map sets.Category (category_by a b)
+unfolding by_plain_name
+two_letters [] a b long short e f = absurd (omega arith)
+two_letters (x ∷ []) a b long short e f = absurd (omega arith)
+two_letters (x ∷ y ∷ []) a b long short e f = rw (e, f) refl
+two_letters (x ∷ y ∷ z ∷ name) a b long short e f = absurd (omega arith)
+
+pub longer_name : (name : List ℕ) → 3 ≤ length name → by_plain_name name ≡ option_or (named_bracket name) (option_map sets.Group (group_by_word name))
+unfolding by_plain_name
+longer_name [] long = absurd (omega arith)
+longer_name (x ∷ []) long = absurd (omega arith)
+longer_name (x ∷ y ∷ []) long = absurd (omega arith)
+longer_name (x ∷ y ∷ z ∷ name) long = refl
