@@ -1,4 +1,4 @@
-ghost use Rattle.std.specs.Prelude.{◌≡◌, ◌+◌, ◌≤◌, drop, length};
+ghost use Rattle.std.specs.Prelude.{◌≡◌, ◌+◌, ◌≤◌, drop, length, IfOk};
 ghost use Rattle.std.specs.Char.{is_ascii_digit};
 ghost use Rattle.std.specs.List.{list_all};
 ghost use Rattle.syntax_defs.specs.Reading.{Answers};
@@ -55,6 +55,7 @@ fn word_count(cs: &[char]) -> usize
 
 /// The word characters at the front, and what stands behind them.
 fn split_word(cs: &[char]) -> (&[char], &[char])
+    ensures short { length result.0.now ≤ length cs.now }
     ensures front { result.0.now ≡ word cs.now }
     ensures back { result.1.now ≡ behind_word cs.now }
 {
@@ -63,7 +64,8 @@ fn split_word(cs: &[char]) -> (&[char], &[char])
 
 /// What stands behind so many characters.
 pub(crate) fn behind(cs: &[char], count: usize) -> &[char]
-    ensures { result.now ≡ drop count cs.now }
+    ensures rest { result.now ≡ drop count cs.now }
+    ensures shorter { length result.now ≤ length cs.now }
 {
     let count = count.min(cs.len());
     &cs[count..]
@@ -118,7 +120,8 @@ fn closed_word(
 ) -> Result<Span, PatternRefusal>
     requires from { from ≤ 100_000 }
     requires word { length word.now ≤ 65_536 }
-    ensures { Answers (λ x. x) result (closed_word close item.begin item.end from word.now rest.now) }
+    ensures place { Answers (λ x. x) result (closed_word close item.begin item.end from word.now rest.now) }
+    ensures inside { IfOk result (λ span. span.to ≤ 200_000) }
 {
     match rest {
         [] => Err(item.open()),
@@ -139,7 +142,8 @@ fn name_at(
 ) -> Result<Span, PatternRefusal>
     requires from { from ≤ 100_000 }
     requires short { length cs.now ≤ 65_536 }
-    ensures { Answers (λ x. x) result (word_at is_name close item.begin item.end from cs.now) }
+    ensures place { Answers (λ x. x) result (word_at is_name close item.begin item.end from cs.now) }
+    ensures inside { IfOk result (λ span. span.to ≤ 200_000) }
 {
     let (word, rest) = split_word(cs);
     if is_name(word) {
@@ -158,7 +162,8 @@ pub(crate) fn target_at(
 ) -> Result<Span, PatternRefusal>
     requires from { from ≤ 100_000 }
     requires short { length cs.now ≤ 65_536 }
-    ensures { Answers (λ x. x) result (word_at is_name_or_number close item.begin item.end from cs.now) }
+    ensures place { Answers (λ x. x) result (word_at is_name_or_number close item.begin item.end from cs.now) }
+    ensures inside { IfOk result (λ span. span.to ≤ 200_000) }
 {
     let (word, rest) = split_word(cs);
     if is_name(word) || is_number(word) {

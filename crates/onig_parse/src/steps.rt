@@ -12,13 +12,13 @@ use std::alloc::{AllocError, Global};
 use syntax_defs::{Bounds, Form, Item, PatternRefusal};
 
 /// A list of one item.
-fn one_item(alloc: Global, item: Item) -> Result<Vec<Item>, AllocError>
+pub(crate) fn one_item(alloc: Global, item: Item) -> Result<Vec<Item>, AllocError>
     ensures { IfOk result (λ items. items.items ≡ item ∷ []) }
 {
     Ok(vec![in alloc; item]?)
 }
 
-fn is_above(n: u32, bound: Option<u32>) -> bool
+pub(crate) fn is_above(n: u32, bound: Option<u32>) -> bool
     ensures { result ≡ is_above n bound }
 {
     match bound {
@@ -27,7 +27,7 @@ fn is_above(n: u32, bound: Option<u32>) -> bool
     }
 }
 
-fn is_below(bound: Option<u32>, n: u32) -> bool
+pub(crate) fn is_below(bound: Option<u32>, n: u32) -> bool
     ensures { result ≡ is_below bound n }
 {
     match bound {
@@ -37,7 +37,7 @@ fn is_below(bound: Option<u32>, n: u32) -> bool
 }
 
 /// Whether the sign behind a repeat makes it lazy.
-fn is_lazy(form: Form, cs: &[char]) -> bool
+pub(crate) fn is_lazy(form: Form, cs: &[char]) -> bool
     ensures { result ≡ is_lazy form cs.now }
 {
     match form {
@@ -47,7 +47,7 @@ fn is_lazy(form: Form, cs: &[char]) -> bool
 }
 
 /// Whether the sign behind a repeat makes it possessive.
-fn is_possessive(form: Form, cs: &[char]) -> bool
+pub(crate) fn is_possessive(form: Form, cs: &[char]) -> bool
     ensures { result ≡ is_possessive form cs.now }
 {
     match form {
@@ -59,7 +59,8 @@ fn is_possessive(form: Form, cs: &[char]) -> bool
 impl Reader {
     /// The item that begins here.
     pub(crate) fn here(&self) -> Extent
-        ensures { result ≡ record { begin = self.now.place; end = length self.now.text } }
+        ensures extent { result ≡ record { begin = self.now.place; end = length self.now.text } }
+        ensures short { result.begin ≤ 65_536 }
     {
         Extent {
             begin: self.place(),
@@ -112,7 +113,7 @@ impl Reader {
     }
 
     /// Repeats the last item.
-    fn plain_repeat(
+    pub(crate) fn plain_repeat(
         &mut self,
         body: &mut OpenBody,
         bounds: Bounds,
@@ -138,7 +139,7 @@ impl Reader {
     }
 
     /// Repeats the last item, and keeps the first way through it alone.
-    fn possessive_repeat(
+    pub(crate) fn possessive_repeat(
         &mut self,
         body: &mut OpenBody,
         bounds: Bounds,

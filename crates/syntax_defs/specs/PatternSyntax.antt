@@ -110,6 +110,10 @@ stop b s = Ok (record { more = false; body = b; seen = s })
 abbrev pub add : Body → (List Item × Seen) → Result Stepped Fault
 add b r = go_on (with_item r.0 b) r.1
 
+-- the body with an item more that is read
+abbrev pub adds : Body → Result (List Item × Seen) Fault → Result Stepped Fault
+adds b read = read >>= add b
+
 -- repeats
 
 abbrev pub is_above : ℕ → Option ℕ → Bool
@@ -267,11 +271,11 @@ step_by go levels options Blank b s = go_on b (past 1 s)
 step_by go levels options Remark b s = go_on b (past (prefix_len (λ c. not (c == 10)) (rest_of s)) s)
 step_by go levels options Comment b s = behind_comment (comment_length false 3 (drop 3 (rest_of s))) b s
 step_by go levels options (Repeat bounds) b s = repeat_at bounds b.repeats b s
-step_by go levels options Open b s = group_at go options s >>= add b
+step_by go levels options Open b s = adds b (group_at go options s)
 step_by go levels options (Edge anchor size) b s = add b (items.At anchor ∷ [], past size s)
 step_by go levels options Number b s = add b (number_item options s)
-step_by go levels options Reference b s = reference_item options (drop 2 (rest_of s)) s >>= add b
-step_by go levels options Single b s = single_item options (100 - levels) s >>= add b
+step_by go levels options Reference b s = adds b (reference_item options (drop 2 (rest_of s)) s)
+step_by go levels options Single b s = adds b (single_item options (100 - levels) s)
 
 abbrev pub step : Going → ℕ → Options → Body → Seen → Result Stepped Fault
 step go levels options b s = step_by go levels options (sight_at options (rest_of s)) b s
