@@ -13,3 +13,8 @@ GivesNow view (Err refusal) now read = Fails refusal read
 abbrev pub GivesStep : Result Bool PatternRefusal → Body → Seen → Result Stepped Fault → Type 0
 GivesStep (Ok more) body now read = read ≡ Ok (record { more = more; body = body; seen = now })
 GivesStep (Err refusal) body now read = Fails refusal read
+
+-- how far the text is read then is what reading gives
+abbrev pub GivesPlace : Result (Unit {0}) PatternRefusal → Seen → Result Seen Fault → Type 0
+GivesPlace (Ok _) now read = read ≡ Ok now
+GivesPlace (Err refusal) now read = Fails refusal read

@@ -162,11 +162,10 @@ impl Reader {
         count: u32,
     ) -> Result<bool, PatternRefusal>
         requires few { count < 8 }
-        requires length { bounds.length ≤ 1_000_000 }
         ensures { GivesStep result body.new self.new
             (signed (is_lazy bounds.form (drop bounds.length (rest_of self.old))) (is_possessive bounds.form (drop bounds.length (rest_of self.old))) bounds count body.old self.old) }
     {
-        let behind = behind(self.rest(), bounds.length);
+        let behind = behind(self.rest(), bounds.length as usize);
         let lazy = is_lazy(bounds.form, behind);
         let possessive = is_possessive(bounds.form, behind);
         match (lazy, possessive) {
@@ -182,7 +181,6 @@ impl Reader {
         body: &mut OpenBody,
         bounds: Bounds,
     ) -> Result<bool, PatternRefusal>
-        requires { bounds.length ≤ 1_000_000 }
         ensures { GivesStep result body.new self.new (repeat_at bounds body.old.repeats body.old self.old) }
     {
         let Some(count) = body.repeats() else {

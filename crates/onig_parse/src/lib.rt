@@ -5,10 +5,12 @@ mod arms;
 mod body;
 mod count;
 pub mod draft;
+mod group;
 mod head;
 pub mod pattern;
 mod reader;
 mod sight;
+mod single;
 mod steps;
 
 pub use char_sets::{CharRange, CharSet};

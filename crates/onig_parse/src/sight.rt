@@ -67,7 +67,7 @@ fn range_sight(least: &[char], most: &[char], rest: &[char]) -> Sight
             least: number_of(least),
             most: most_of(most),
             form: Form::Interval,
-            length: least.len() + most.len() + 3,
+            length: (least.len() + most.len() + 3) as u32,
         })
     } else {
         Sight::Single
@@ -95,7 +95,7 @@ fn count_sight(least: &[char], rest: &[char]) -> Sight
             least: number_of(least),
             most: Some(number_of(least)),
             form: Form::Count,
-            length: least.len() + 2,
+            length: (least.len() + 2) as u32,
         }),
         [',', behind @ ..] => {
             let (most, rest) = split_digits(behind);

@@ -123,7 +123,6 @@ impl Reader {
     ) -> Result<bool, PatternRefusal>
         requires few { count < 8 }
         requires short { more < 8 }
-        requires length { bounds.length ≤ 1_000_000 }
         ensures { GivesStep result body.new self.new (plain_repeat bounds greedy more count body.old self.old) }
     {
         let inner = self.end_list(body.take_last(self.alloc()))?;
@@ -134,7 +133,7 @@ impl Reader {
             greedy,
         };
         body.put_last(one_item(self.alloc(), repeat)?, count + 1);
-        self.pass(bounds.length + more);
+        self.pass(bounds.length as usize + more);
         Ok(true)
     }
 
@@ -146,7 +145,6 @@ impl Reader {
         count: u32,
     ) -> Result<bool, PatternRefusal>
         requires few { count < 8 }
-        requires length { bounds.length ≤ 1_000_000 }
         ensures { GivesStep result body.new self.new (possessive_repeat bounds count body.old self.old) }
     {
         let inner = self.end_list(body.take_last(self.alloc()))?;
@@ -158,7 +156,7 @@ impl Reader {
         };
         let whole = self.end_list(one_item(self.alloc(), repeat)?)?;
         body.put_last(one_item(self.alloc(), Item::Atomic(whole))?, count + 1);
-        self.pass(bounds.length + 1);
+        self.pass(bounds.length as usize + 1);
         Ok(true)
     }
 }

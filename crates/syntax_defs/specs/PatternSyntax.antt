@@ -262,7 +262,7 @@ single_item options depth s =
     single_at options depth s.place (rest_of s)
     >>= λ read. Ok (items.One s.place options depth ∷ [], at_place read.place s)
 
--- one step, by what stands here; so many groups and classes may open
+-- one step, by what stands here, where so many forms may open within it
 abbrev pub step_by : Going → ℕ → Options → Sight → Body → Seen → Result Stepped Fault
 step_by go levels options End b s = stop b s
 step_by go levels options Close b s = stop b s
@@ -289,10 +289,10 @@ unfoldable pub steps : Going → ℕ → ℕ → Options → Body → Seen → R
 steps go zero levels options b s = Err (Syntax s.place)
 steps go (suc count) levels options b s = step go levels options b s >>= λ r. after_step (steps go count levels options) r.more r.body r.seen
 
--- the body of a group, in which so many groups and classes may nest
+-- the body of a form, where so many forms may open, one in another
 unfoldable pub body_at : ℕ → Going
-body_at zero options s = steps (λ o t. Err (TooDeep 101)) (length s.text + 1) 0 options empty_body s
-body_at (suc levels) options s = steps (body_at levels) (length s.text + 1) (suc levels) options empty_body s
+body_at zero options s = Err (TooDeep 101)
+body_at (suc levels) options s = steps (body_at levels) (length s.text + 1) levels options empty_body s
 
 -- A text that is read: its lists, the list that is the whole, and its groups.
 pub record Parsed : Type 0 where
@@ -316,4 +316,4 @@ abbrev pub start : List ℕ → Seen
 start text = record { text = text; place = 0; lists = []; groups = 0; names = [] }
 
 abbrev pub parse : List ℕ → Result Parsed Fault
-parse text = body_at 100 no_options (start text) >>= λ read. whole_by (rest_of read.1) read.0 read.1
+parse text = body_at 101 no_options (start text) >>= λ read. whole_by (rest_of read.1) read.0 read.1

@@ -84,7 +84,7 @@ pub struct Bounds {
     pub least: u32,
     pub most: Option<u32>,
     pub form: Form,
-    pub length: usize,
+    pub length: u32,
 }
 
 /// What stands at a place of a pattern text.
