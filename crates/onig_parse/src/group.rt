@@ -162,7 +162,7 @@ impl Reader {
 
     /// The body of a form, up to its `)` or the end of the text.
     #[cycle(forms)]
-    fn body(&mut self, options: Options, levels: u32) -> Result<OpenBody, PatternRefusal>
+    pub(crate) fn body(&mut self, options: Options, levels: u32) -> Result<OpenBody, PatternRefusal>
         requires { levels ≤ 101 }
         ensures { GivesNow (λ body. body) result self.new (body_at levels options self.old) }
     {

@@ -7,6 +7,8 @@ mod count;
 pub mod draft;
 mod group;
 mod head;
+mod parse;
+mod parsed;
 pub mod pattern;
 mod reader;
 mod sight;

@@ -1,9 +1,10 @@
 ghost use Rattle.std.specs.Prelude.{◌≡◌, ◌+◌, ◌≤◌, [], ◌∷◌, ◌++◌, length, slice_get, IfOk, OnOk};
 ghost use Rattle.std.specs.List.{list_any};
-ghost use Rattle.syntax_defs.specs.PatternSyntax.{at_place, is_named, next_id, past, rest_of, start, with_group, with_list};
+ghost use Rattle.syntax_defs.specs.PatternSyntax.{at_place, is_named, next_id, parsed_of, past, rest_of, start, with_group, with_list};
 
 use crate::count::counted;
 use crate::head::word_from;
+use crate::parsed::ParsedText;
 use pattern_defs::ListId;
 use std::alloc::{AllocError, Global};
 use std::marker::Model;
@@ -118,6 +119,13 @@ impl Reader {
         ensures { result ≡ self.now.groups }
     {
         self.groups
+    }
+
+    /// What was read, whose whole is the list `top`.
+    pub(crate) fn into_parsed(self, top: ListId) -> ParsedText
+        ensures { result ≡ parsed_of (top, self) }
+    {
+        ParsedText::new(self.lists, top, self.groups, self.names)
     }
 
     /// Whether a group has this name.

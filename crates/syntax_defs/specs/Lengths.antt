@@ -58,9 +58,13 @@ item_length lengths (Behind at arms wanted) = Some 0
 item_length lengths (Atomic body) = length_of lengths body
 item_length lengths (Back at target fold) = None
 
+-- the sum of lengths, on from one
+abbrev pub sum_from : List (Option ℕ) → Option ℕ → List Item → Option ℕ
+sum_from lengths sum [] = sum
+sum_from lengths sum (item ∷ items) = sum_from lengths (plus sum (item_length lengths item)) items
+
 abbrev pub items_length : List (Option ℕ) → List Item → Option ℕ
-items_length lengths [] = Some 0
-items_length lengths (item ∷ items) = plus (item_length lengths item) (items_length lengths items)
+items_length lengths items = sum_from lengths (Some 0) items
 
 abbrev pub lengths_from : List (Option ℕ) → List (List Item) → List (Option ℕ)
 lengths_from lengths [] = lengths

@@ -4,6 +4,7 @@ pub mod Escapes
 pub mod Heads
 pub mod Lengths
 pub mod PatternExamples
+pub mod PatternMeaning
 pub mod PatternSyntax
 pub mod Reading
 pub mod Sights
