@@ -15,6 +15,14 @@ AllArms-widen : (a b : ℕ) (arms : List Arm) → a ≤ b → AllArms a arms →
 AllArms-widen a b [] h all = tt
 AllArms-widen a b (arm ∷ arms) h all = (let lt : arm.body.0 < a = all.0 in omega arith, AllArms-widen a b arms h all.1)
 
+pub AllIds-push : (n : ℕ) (ids : List ListId) (id : ListId) → AllIds n ids → id.0 < n → AllIds n (ids ++ id ∷ [])
+AllIds-push n [] id all h = (h, tt)
+AllIds-push n (first ∷ ids) id all h = (all.0, AllIds-push n ids id all.1 h)
+
+pub AllArms-push : (n : ℕ) (arms : List Arm) (arm : Arm) → AllArms n arms → arm.body.0 < n → AllArms n (arms ++ arm ∷ [])
+AllArms-push n [] arm all h = (h, tt)
+AllArms-push n (first ∷ arms) arm all h = (all.0, AllArms-push n arms arm all.1 h)
+
 -- what names lists below a number and groups up to one does so for greater ones
 IsNode-widen : (a b g k : ℕ) (node : PatNode) → a ≤ b → g ≤ k → IsNode a g node → IsNode b k node
 IsNode-widen a b g k (One set) h more is = tt
