@@ -1,8 +1,9 @@
 -- When what the code has read is what the definitions say.
-use Rattle.std.specs.Prelude.{◌≡◌, ℕ, Bool}
+use Rattle.std.specs.Prelude.{◌≡◌, ℕ, Bool, List, Option, Some, None}
 use Rattle.char_sets.specs.Named.{in_named}
 use Rattle.char_sets.specs.Ranges.{IsSetOf}
 use Rattle.char_sets.specs.declared.named.NamedSet.{NamedSet}
+use Rattle.syntax_defs.specs.Reading.{Read, Fitting}
 use Rattle.syntax_defs.specs.Escapes.{Char, Set, signed}
 use Rattle.syntax_defs.specs.Escapes as defs
 use Rattle.onig_class.specs.declared.escape.Escape.{Escape}
@@ -20,3 +21,9 @@ abbrev pub IsEscaped : Escaped → defs.Escaped → Type 0
 IsEscaped (values.Char c) (Char d) = c ≡ d
 IsEscaped (values.Set set) (Set p) = IsSetOf set p
 IsEscaped _ _ = ⊥
+
+-- a single character and the place behind it, if there is one
+abbrev pub IsSingle : List ℕ → Option (ℕ × ℕ) → Option (Read ℕ) → Type 0
+IsSingle text None single = single ≡ None
+IsSingle text (Some found) None = ⊥
+IsSingle text (Some found) (Some read) = Fitting (λ c d. c ≡ d) text found.0 found.1 read

@@ -1,14 +1,13 @@
-ghost use Rattle.std.specs.Prelude.{◌≡◌, ◌<◌, ◌≤◌, ◌+◌, ℕ, List, length, drop, slice_get, IfOk};
+ghost use Rattle.std.specs.Prelude.{◌≡◌, ◌<◌, ◌≤◌, ◌+◌, ℕ, List, length, drop, slice_get, IfOk, IfSome};
 ghost use Rattle.syntax_defs.specs.Reading.{Gives};
-ghost use Rattle.syntax_defs.specs.Escapes.{control_of, set_of, property_to, property_at, longer_escape, escape_or_longer, escape_at, signed};
-ghost use Rattle.char_sets.specs.Named.{in_named};
-ghost use Rattle.char_sets.specs.Ranges.{IsSetOf};
+ghost use Rattle.syntax_defs.specs.Escapes.{control_of, set_of, closing, property_to, property_at, longer_escape, escape_by, behind_backslash, escape_at};
 ghost use Rattle.onig_class.specs.Fits.{IsEscape, IsEscaped};
 
 use crate::hex::{hex, unicode};
 use crate::names::property_by;
+use crate::sets::named_set;
 use char_sets::{CharSet, NamedSet};
-use std::alloc::{AllocError, Global};
+use std::alloc::Global;
 use syntax_defs::PatternRefusal;
 
 /// What an escape stands for: a character, or a named set or, where the flag is set, its complement.
@@ -58,6 +57,14 @@ fn set_of(c: char) -> Option<(NamedSet, bool)>
     }
 }
 
+/// Where the first `}` stands.
+fn closing(rest: &[char]) -> Option<usize>
+    ensures value { result ≡ closing rest.now }
+    ensures inside { IfSome result (λ k. k < length rest.now) }
+{
+    rest.iter().position(|c| *c == '}')
+}
+
 /// A property, as `\p{Alpha}`.
 #[tactic(auto, unfolding(syntax_defs::specs::Escapes::property_at))]
 fn property(
@@ -68,10 +75,11 @@ fn property(
 ) -> Result<(Escape, usize), PatternRefusal>
     requires there { at + 2 ≤ length text.now }
     requires short { length text.now ≤ 65_536 }
-    ensures { Gives IsEscape text.now result (property_at at negated (drop (at + 2) text.now)) }
+    ensures value { Gives IsEscape text.now result (property_at at negated (drop (at + 2) text.now)) }
+    ensures place { IfOk result (λ found. (at < found.1) × (found.1 ≤ length text.now)) }
 {
     match &text[at + 2..] {
-        ['{', rest @ ..] => match rest.iter().position(|c| *c == '}') {
+        ['{', rest @ ..] => match closing(rest) {
             None => Err(PatternRefusal::Syntax {
                 at: text.len() as u64,
             }),
@@ -91,8 +99,9 @@ fn named(
 ) -> Result<(Escape, usize), PatternRefusal>
     requires there { at + long + 4 ≤ length text.now }
     requires short { length text.now ≤ 65_536 }
-    ensures { (rest : List ℕ) → drop (at + 3) text.now ≡ rest
+    ensures value { (rest : List ℕ) → drop (at + 3) text.now ≡ rest
         → Gives IsEscape text.now result (property_to at negated rest (Some long)) }
+    ensures place { IfOk result (λ found. (at < found.1) × (found.1 ≤ length text.now)) }
 {
     let name = &text[at + 3..at + 3 + long];
     let Ok(found) = property_by(alloc, negated, name) else {
@@ -113,7 +122,8 @@ fn longer_escape(
 ) -> Result<(Escape, usize), PatternRefusal>
     requires there { at + 2 ≤ length text.now }
     requires short { length text.now ≤ 65_536 }
-    ensures { Gives IsEscape text.now result (longer_escape at c (drop (at + 2) text.now)) }
+    ensures value { Gives IsEscape text.now result (longer_escape at c (drop (at + 2) text.now)) }
+    ensures place { IfOk result (λ found. (at < found.1) × (found.1 ≤ length text.now)) }
 {
     match c {
         'x' => hex(text, at),
@@ -126,6 +136,7 @@ fn longer_escape(
 }
 
 /// An escape with the character `c` behind its backslash.
+#[tactic(auto, unfolding(syntax_defs::specs::Escapes::escape_by))]
 fn escape_by(
     alloc: Global,
     text: &[char],
@@ -134,8 +145,8 @@ fn escape_by(
 ) -> Result<(Escape, usize), PatternRefusal>
     requires there { at + 2 ≤ length text.now }
     requires short { length text.now ≤ 65_536 }
-    ensures { (rest : List ℕ) → drop (at + 2) text.now ≡ rest
-        → Gives IsEscape text.now result (escape_or_longer at c rest (control_of c) (set_of c)) }
+    ensures value { Gives IsEscape text.now result (escape_by at c (drop (at + 2) text.now)) }
+    ensures place { IfOk result (λ found. (at < found.1) × (found.1 ≤ length text.now)) }
 {
     if let Some(control) = control_of(c) {
         return Ok((Escape::Char(control), at + 2));
@@ -147,7 +158,7 @@ fn escape_by(
 }
 
 /// An escape, from its backslash on.
-#[tactic(auto, unfolding(syntax_defs::specs::Escapes::escape_at))]
+#[tactic(auto, unfolding(syntax_defs::specs::Escapes::behind_backslash))]
 pub(crate) fn escape_at(
     alloc: Global,
     text: &[char],
@@ -155,11 +166,12 @@ pub(crate) fn escape_at(
 ) -> Result<(Escape, usize), PatternRefusal>
     requires there { at < length text.now }
     requires short { length text.now ≤ 65_536 }
-    ensures { Gives IsEscape text.now result (escape_at at (drop at text.now)) }
+    ensures value { Gives IsEscape text.now result (behind_backslash at (drop (at + 1) text.now)) }
+    ensures place { IfOk result (λ found. (at < found.1) × (found.1 ≤ length text.now)) }
 {
-    match &text[at..] {
-        [_, c, ..] => escape_by(alloc, text, at, *c),
-        _ => Err(PatternRefusal::Syntax { at: at as u64 }),
+    match &text[at + 1..] {
+        [] => Err(PatternRefusal::Syntax { at: at as u64 }),
+        [c, ..] => escape_by(alloc, text, at, *c),
     }
 }
 
@@ -171,7 +183,21 @@ pub fn read_escape(
 ) -> Result<(Escaped, usize), PatternRefusal>
     requires there { slice_get text.now at ≡ Some 92 }
     requires short { length text.now ≤ 65_536 }
-    ensures { Gives IsEscaped text.now result (escape_at at (drop at text.now)) }
+    ensures value { Gives IsEscaped text.now result (escape_at at (drop at text.now)) }
+    ensures place { IfOk result (λ found. (at < found.1) × (found.1 ≤ length text.now)) }
+{
+    made(alloc, text, at)
+}
+
+fn made(
+    alloc: Global,
+    text: &[char],
+    at: usize,
+) -> Result<(Escaped, usize), PatternRefusal>
+    requires there { at < length text.now }
+    requires short { length text.now ≤ 65_536 }
+    ensures value { Gives IsEscaped text.now result (behind_backslash at (drop (at + 1) text.now)) }
+    ensures place { IfOk result (λ found. (at < found.1) × (found.1 ≤ length text.now)) }
 {
     let (found, next) = escape_at(alloc, text, at)?;
     match found {
@@ -181,19 +207,4 @@ pub fn read_escape(
             Err(_) => Err(PatternRefusal::Memory),
         },
     }
-}
-
-/// A named set, or its complement.
-pub(crate) fn named_set(
-    alloc: Global,
-    set: NamedSet,
-    negated: bool,
-) -> Result<CharSet, AllocError>
-    ensures { IfOk result (λ s. IsSetOf s (signed negated (in_named set))) }
-{
-    let named = CharSet::named(alloc, set)?;
-    if negated {
-        return named.complement(alloc);
-    }
-    Ok(named)
 }

@@ -1,4 +1,4 @@
-ghost use Rattle.std.specs.Prelude.{◌≡◌, ◌<◌, ◌≤◌, ◌+◌, ◌^◌, ℕ, List, true, length, take, drop};
+ghost use Rattle.std.specs.Prelude.{◌≡◌, ◌<◌, ◌≤◌, ◌+◌, ◌^◌, ℕ, List, true, length, take, drop, IfOk};
 ghost use Rattle.std.specs.List.{list_all};
 ghost use Rattle.std.specs.Char.{is_digit};
 ghost use Rattle.syntax_defs.specs.Reading.{Gives};
@@ -53,7 +53,8 @@ fn hex_digits(rest: &[char], most: usize) -> (usize, u32)
 /// The character with a code, for an escape at `at` and up to `next`.
 fn scalar(code: u32, at: usize, next: usize) -> Result<(Escape, usize), PatternRefusal>
     requires { at ≤ 65_536 }
-    ensures { (text rest : List ℕ) → drop next text ≡ rest → Gives IsEscape text result (scalar_or_fault at code next rest) }
+    ensures value { (text rest : List ℕ) → drop next text ≡ rest → Gives IsEscape text result (scalar_or_fault at code next rest) }
+    ensures place { IfOk result (λ found. found.1 ≡ next) }
 {
     match char::from_u32(code) {
         Some(c) => Ok((Escape::Char(c), next)),
@@ -66,7 +67,8 @@ fn scalar(code: u32, at: usize, next: usize) -> Result<(Escape, usize), PatternR
 fn byte(text: &[char], at: usize) -> Result<(Escape, usize), PatternRefusal>
     requires there { at + 2 ≤ length text.now }
     requires short { length text.now ≤ 65_536 }
-    ensures { Gives IsEscape text.now result (byte_at at (drop (at + 2) text.now)) }
+    ensures value { Gives IsEscape text.now result (byte_at at (drop (at + 2) text.now)) }
+    ensures place { IfOk result (λ found. (at < found.1) × (found.1 ≤ length text.now)) }
 {
     let (count, value) = hex_digits(&text[at + 2..], 2);
     if count == 0 {
@@ -83,7 +85,8 @@ fn byte(text: &[char], at: usize) -> Result<(Escape, usize), PatternRefusal>
 pub(crate) fn unicode(text: &[char], at: usize) -> Result<(Escape, usize), PatternRefusal>
     requires there { at + 2 ≤ length text.now }
     requires short { length text.now ≤ 65_536 }
-    ensures { Gives IsEscape text.now result (unicode_at at (drop (at + 2) text.now)) }
+    ensures value { Gives IsEscape text.now result (unicode_at at (drop (at + 2) text.now)) }
+    ensures place { IfOk result (λ found. (at < found.1) × (found.1 ≤ length text.now)) }
 {
     let (count, value) = hex_digits(&text[at + 2..], 4);
     match count {
@@ -103,8 +106,9 @@ fn brace(
     requires there { next ≤ length text.now }
     requires before { at ≤ next }
     requires short { length text.now ≤ 65_536 }
-    ensures { (rest : List ℕ) → drop next text.now ≡ rest
+    ensures value { (rest : List ℕ) → drop next text.now ≡ rest
         → Gives IsEscape text.now result (brace_at at code next rest) }
+    ensures place { IfOk result (λ found. (at < found.1) × (found.1 ≤ length text.now)) }
 {
     match &text[next..] {
         [] => Err(PatternRefusal::Syntax { at: next as u64 }),
@@ -118,7 +122,8 @@ fn brace(
 fn braced(text: &[char], at: usize) -> Result<(Escape, usize), PatternRefusal>
     requires there { at + 3 ≤ length text.now }
     requires short { length text.now ≤ 65_536 }
-    ensures { Gives IsEscape text.now result (braced_at at (drop (at + 3) text.now)) }
+    ensures value { Gives IsEscape text.now result (braced_at at (drop (at + 3) text.now)) }
+    ensures place { IfOk result (λ found. (at < found.1) × (found.1 ≤ length text.now)) }
 {
     let rest = &text[at + 3..];
     if rest.is_empty() {
@@ -136,7 +141,8 @@ fn braced(text: &[char], at: usize) -> Result<(Escape, usize), PatternRefusal>
 pub(crate) fn hex(text: &[char], at: usize) -> Result<(Escape, usize), PatternRefusal>
     requires there { at + 2 ≤ length text.now }
     requires short { length text.now ≤ 65_536 }
-    ensures { Gives IsEscape text.now result (hex_at at (drop (at + 2) text.now)) }
+    ensures value { Gives IsEscape text.now result (hex_at at (drop (at + 2) text.now)) }
+    ensures place { IfOk result (λ found. (at < found.1) × (found.1 ≤ length text.now)) }
 {
     match &text[at + 2..] {
         [] => Err(PatternRefusal::Syntax { at: at as u64 }),

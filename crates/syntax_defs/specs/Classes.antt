@@ -1,6 +1,6 @@
 -- Classes: sets of characters between brackets. The forms are those of Oniguruma's RE with Ruby syntax; that a `-`
 -- beside a set is itself, and that letters are joined with their other case before all else, is this project's own.
-use Rattle.std.specs.Prelude.{ℕ, zero, suc, ◌+◌, ◌-◌, ◌==◌, nat_lt, nat_eq, List, [], ◌∷◌, length, take, drop, Bool, true, false, ◌&&◌, ◌||◌, not, if◌then◌else◌, is_none, Option, Some, None, Result, Ok, Err}
+use Rattle.std.specs.Prelude.{ℕ, zero, suc, ◌+◌, ◌-◌, ◌==◌, nat_lt, nat_eq, List, [], ◌∷◌, length, drop, slice_range, Bool, true, false, ◌&&◌, ◌||◌, not, if◌then◌else◌, is_none, Option, Some, None, Result, Ok, Err}
 use Rattle.std.specs.List.{prefix_len, starts_with}
 use Rattle.std.specs.Char.{is_ascii_alphabetic}
 use Rattle.char_sets.specs.Case.{other_case, is_from_to}
@@ -9,7 +9,7 @@ use Rattle.char_sets.specs.declared.named.NamedSet.{NamedSet}
 use Rattle.syntax_defs.specs.declared.class_part.ClassPart.{ClassPart}
 use Rattle.syntax_defs.specs.declared.class_part.ClassPart.TheVariants as parts
 use Rattle.syntax_defs.specs.Reading.{Fault, Syntax, LeftOut, TooDeep, Read, ◌>>=◌}
-use Rattle.syntax_defs.specs.Escapes.{Escaped, Char, Set, Escape, signed, escape_at, named_bracket}
+use Rattle.syntax_defs.specs.Escapes.{Escaped, Char, Set, Escape, escaped_char, escaped_set, signed, behind_backslash, named_bracket}
 
 -- reading a set at a place
 abbrev pub SetReader : Type 0
@@ -42,61 +42,54 @@ abbrev pub name_length : List ℕ → ℕ
 name_length [] = 0
 name_length (c ∷ rest) = if is_ascii_alphabetic c || c == 95 then 1 + prefix_len is_word rest else 0
 
--- `[:name:]` or `[:^name:]`
-pub record Bracket : Type 0 where
-  pub negated : Bool
-  pub name : List ℕ
+-- whether a bracket is a complement, and where its name begins and ends, behind the `[`
+abbrev pub Bracket : Type 0
+Bracket = Bool × ℕ × ℕ
 
 -- where a name and `:]` follow
-abbrev pub named_by : (negated : Bool) → List ℕ → Option Bracket
-named_by negated rest =
+abbrev pub named_by : (negated : Bool) (from : ℕ) → List ℕ → Option Bracket
+named_by negated from rest =
     let long = name_length rest in
-    if nat_lt 0 long && starts_with nat_eq (drop long rest) (58 ∷ 93 ∷ [])
-    then Some (record { negated = negated; name = take long rest }) else None
+    if nat_lt 0 long && starts_with nat_eq (drop long rest) (58 ∷ 93 ∷ []) then Some (negated, from, from + long) else None
 
-abbrev pub bracket_when : (colon : Bool) → List ℕ → Option Bracket
-bracket_when false rest = None
-bracket_when true [] = None
-bracket_when true (c ∷ rest) = if c == 94 then named_by true rest else named_by false (c ∷ rest)
+unfoldable pub behind_colon : List ℕ → Option Bracket
+behind_colon [] = named_by false 1 []
+behind_colon (c ∷ rest) = if c == 94 then named_by true 2 rest else named_by false 1 (c ∷ rest)
 
--- the bracket that a text begins, if it begins one, what stands behind its `[` given
+-- the bracket `[:name:]` or `[:^name:]`, if one begins here, what stands behind its `[` given
 unfoldable pub bracket_at : List ℕ → Option Bracket
 bracket_at [] = None
-bracket_at (c ∷ rest) = bracket_when (c == 58) rest
-
--- how many characters it takes
-abbrev pub length_of : Bracket → ℕ
-length_of bracket = (if bracket.negated then 5 else 4) + length bracket.name
+bracket_at (c ∷ rest) = if c == 58 then behind_colon rest else None
 
 -- single characters, ranges, escapes and brackets
 
--- In a class `\b` is the character 8.
-unfoldable pub class_escape_at : (place : ℕ) → List ℕ → Escape
-class_escape_at place [] = Err (Syntax place)
-class_escape_at place (backslash ∷ []) = Err (Syntax place)
-class_escape_at place (backslash ∷ c ∷ rest) =
-    if c == 98 then Ok (record { value = Char 8; place = place + 2; rest = rest })
-    else escape_at place (backslash ∷ c ∷ rest)
+-- behind a backslash in a class, where `\b` is the character 8
+unfoldable pub behind_class_backslash : (place : ℕ) → List ℕ → Escape
+behind_class_backslash place [] = Err (Syntax place)
+behind_class_backslash place (c ∷ rest) =
+    if c == 98 then escaped_char 8 (place + 2) rest
+    else behind_backslash place (c ∷ rest)
 
-abbrev pub set_or_fault : (place : ℕ) → List ℕ → Bracket → Option NamedSet → Escape
-set_or_fault place rest bracket None = Err (LeftOut place)
-set_or_fault place rest bracket (Some set) = Ok (record {
-  value = Set (signed bracket.negated (in_named set));
-  place = place + length_of bracket;
-  rest = drop (length_of bracket) rest
-})
+abbrev pub set_or_fault : (place next : ℕ) → List ℕ → (negated : Bool) → Option NamedSet → Escape
+set_or_fault place next rest negated None = Err (LeftOut place)
+set_or_fault place next rest negated (Some set) = escaped_set (set, negated) next rest
 
 abbrev pub bracket_or_fault : (place : ℕ) → List ℕ → Option Bracket → Escape
 bracket_or_fault place rest None = Err (Syntax place)
-bracket_or_fault place rest (Some bracket) = set_or_fault place rest bracket (named_bracket bracket.name)
+bracket_or_fault place rest (Some (negated, from, to)) =
+    set_or_fault place (place + to + 3) (drop (to + 2) rest) negated (named_bracket (slice_range rest from to))
+
+-- a bracket, behind its `[`
+unfoldable pub behind_bracket : (place : ℕ) → List ℕ → Escape
+behind_bracket place rest = bracket_or_fault place rest (bracket_at rest)
 
 -- one character or a set, from its first character on
 unfoldable pub item_at : (place : ℕ) → List ℕ → Escape
 item_at place [] = Err (Syntax place)
 item_at place (c ∷ rest) =
-    if c == 92 then class_escape_at place (c ∷ rest)
-    else if c == 91 then bracket_or_fault place (c ∷ rest) (bracket_at rest)
-    else Ok (record { value = Char c; place = place + 1; rest = rest })
+    if c == 92 then behind_class_backslash place rest
+    else if c == 91 then behind_bracket place rest
+    else escaped_char c (place + 1) rest
 
 abbrev pub char_of_value : Read Escaped → Escaped → Option (Read ℕ)
 char_of_value item (Char c) = Some (record { value = c; place = item.place; rest = item.rest })
@@ -110,29 +103,29 @@ char_of (Err fault) = None
 unfoldable pub single_at : (place : ℕ) → List ℕ → Option (Read ℕ)
 single_at place [] = None
 single_at place (c ∷ rest) =
-    if c == 92 then char_of (class_escape_at place (c ∷ rest))
+    if c == 92 then char_of (behind_class_backslash place rest)
     else if (c == 91 || c == 93) || (c == 38 && begins_with 38 rest) then None
     else Some (record { value = c; place = place + 1; rest = rest })
 
 -- the last character of a range, behind its first: a `-`, and a single character
-abbrev pub range_end : (place : ℕ) → List ℕ → Option (Read ℕ)
+unfoldable pub range_end : (place : ℕ) → List ℕ → Option (Read ℕ)
 range_end place [] = None
 range_end place (c ∷ rest) = if c == 45 then single_at (place + 1) rest else None
 
--- a range from `first` on, or the one character
-abbrev pub range_or_one : (fold : Bool) (place first : ℕ) → Read Escaped → Option (Read ℕ) → Result (Read (ℕ → Bool)) Fault
-range_or_one fold place first item None = Ok (record { value = is_char_folded fold first; place = item.place; rest = item.rest })
-range_or_one fold place first item (Some last) =
+-- a range from `first` on, or the one character, which ends at `next`
+abbrev pub range_or_one : (fold : Bool) (place first next : ℕ) → List ℕ → Option (Read ℕ) → Result (Read (ℕ → Bool)) Fault
+range_or_one fold place first next rest None = Ok (record { value = is_char_folded fold first; place = next; rest = rest })
+range_or_one fold place first next rest (Some last) =
     if nat_lt last.value first then Err (Syntax place)
     else Ok (record { value = folded fold (is_from_to first last.value); place = last.place; rest = last.rest })
 
-abbrev pub member_from : (fold : Bool) (place : ℕ) → Read Escaped → Escaped → Result (Read (ℕ → Bool)) Fault
-member_from fold place item (Char c) = range_or_one fold place c item (range_end item.place item.rest)
-member_from fold place item (Set p) = Ok (record { value = p; place = item.place; rest = item.rest })
+abbrev pub member_from : (fold : Bool) (place next : ℕ) → List ℕ → Escaped → Result (Read (ℕ → Bool)) Fault
+member_from fold place next rest (Char c) = range_or_one fold place c next rest (range_end next rest)
+member_from fold place next rest (Set p) = Ok (record { value = p; place = next; rest = rest })
 
 -- a member of a class that is no class itself
 unfoldable pub member_at : (fold : Bool) → SetReader
-member_at fold place rest = item_at place rest >>= λ item. member_from fold place item item.value
+member_at fold place rest = item_at place rest >>= λ item. member_from fold place item.place item.rest item.value
 
 -- classes
 

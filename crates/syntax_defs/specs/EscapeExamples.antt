@@ -12,5 +12,5 @@ abbrev pub escape_of : List ℕ → Escape
 escape_of text = escape_at 0 text
 
 pub a_letter_stands_for_a_control : escape_of (codes "\\tx") ≡ escaped_char 9 2 (codes "x")
-unfolding Rattle.syntax_defs.specs.Escapes.escape_at
+unfolding Rattle.syntax_defs.specs.Escapes.behind_backslash Rattle.syntax_defs.specs.Escapes.escape_by
 a_letter_stands_for_a_control = refl

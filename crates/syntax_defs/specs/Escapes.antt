@@ -160,6 +160,10 @@ abbrev pub property_or_fault : (place next : ℕ) → List ℕ → Option (Named
 property_or_fault place next rest None = Err (LeftOut place)
 property_or_fault place next rest (Some set) = escaped_set set next rest
 
+-- where the first `}` stands
+abbrev pub closing : List ℕ → Option ℕ
+closing rest = position (λ c. c == 125) rest
+
 -- behind `\p{`, up to the `}`
 abbrev pub property_to : (place : ℕ) (negated : Bool) → List ℕ → Option ℕ → Escape
 property_to place negated rest None = Err (Syntax (place + 3 + length rest))
@@ -170,7 +174,7 @@ property_to place negated rest (Some k) =
 unfoldable pub property_at : (place : ℕ) (negated : Bool) → List ℕ → Escape
 property_at place negated [] = Err (LeftOut place)
 property_at place negated (c ∷ rest) =
-    if c == 123 then property_to place negated rest (position (λ d. d == 125) rest) else Err (LeftOut place)
+    if c == 123 then property_to place negated rest (closing rest) else Err (LeftOut place)
 
 -- characters by hexadecimal digits
 
@@ -252,9 +256,16 @@ escape_or_longer place c rest (Some code) set = escaped_char code (place + 2) re
 escape_or_longer place c rest None (Some set) = escaped_set set (place + 2) rest
 escape_or_longer place c rest None None = longer_escape place c rest
 
+-- behind the backslash and one character
+unfoldable pub escape_by : (place c : ℕ) → List ℕ → Escape
+escape_by place c rest = escape_or_longer place c rest (control_of c) (set_of c)
+
+-- behind the backslash
+unfoldable pub behind_backslash : (place : ℕ) → List ℕ → Escape
+behind_backslash place [] = Err (Syntax place)
+behind_backslash place (c ∷ rest) = escape_by place c rest
+
 -- An escape that is a character or a set, from its backslash on. A backslash that ends the text can't be read, and
 -- any other escape by a letter or a digit is left out.
-unfoldable pub escape_at : (place : ℕ) → List ℕ → Escape
-escape_at place [] = Err (Syntax place)
-escape_at place (backslash ∷ []) = Err (Syntax place)
-escape_at place (backslash ∷ c ∷ rest) = escape_or_longer place c rest (control_of c) (set_of c)
+abbrev pub escape_at : (place : ℕ) → List ℕ → Escape
+escape_at place from = behind_backslash place (drop 1 from)

@@ -1,3 +1,6 @@
+ghost use Rattle.std.specs.Prelude.{◌≡◌};
+ghost use Rattle.syntax_defs.specs.declared.refusal.PatternRefusal.TheVariants.{Memory};
+
 use std::alloc::{AllocError, AllocFailed};
 use thiserror::Error;
 
@@ -22,23 +25,17 @@ pub enum PatternRefusal {
 }
 
 impl From<AllocError> for PatternRefusal {
-    ghost use Rattle.std.specs.Prelude.{◌≡◌};
-    ghost use Rattle.syntax_defs.specs.declared.refusal.PatternRefusal.TheVariants.{Memory};
-
     ghost from_gives = { λ _ e. e ≡ Memory };
 
-    fn from(_fault: AllocError) -> PatternRefusal {
+    fn from(_e: AllocError) -> PatternRefusal {
         PatternRefusal::Memory
     }
 }
 
 impl<T: Drop> From<AllocFailed<T>> for PatternRefusal {
-    ghost use Rattle.std.specs.Prelude.{◌≡◌};
-    ghost use Rattle.syntax_defs.specs.declared.refusal.PatternRefusal.TheVariants.{Memory};
-
     ghost from_gives = { λ _ e. e ≡ Memory };
 
-    fn from(_fault: AllocFailed<T>) -> PatternRefusal {
+    fn from(_e: AllocFailed<T>) -> PatternRefusal {
         PatternRefusal::Memory
     }
 }
