@@ -1,5 +1,6 @@
 -- Lists of nodes that name earlier lists and groups up to a number.
-use Rattle.std.proofs.Common.{◌≡◌, ℕ, zero, suc, ◌+◌, ◌<◌, ◌≤◌, List, [], ◌∷◌, ◌++◌, length, map, get_or, ap, sym, arith}
+use Rattle.std.proofs.Common.{◌≡◌, ℕ, zero, suc, ◌+◌, ◌<◌, ◌≤◌, List, [], ◌∷◌, ◌++◌, length, map, get_or, take, ap, sym, ◌∙◌, arith}
+use Rattle.std.proofs.lemmas.List.{take_more, map_push}
 use Rattle.std.specs.Prelude.{slice_get, unwrap_or}
 use Rattle.pattern_defs.specs.declared.nodes.ListId.{ListId}
 use Rattle.pattern_defs.specs.declared.nodes.Arm.{Arm}
@@ -58,3 +59,7 @@ pub nodes_of-read : {X : Type 0} (f : X → List PatNode) (xs : List X) (k : ℕ
 nodes_of-read f [] k x h e = absurd (omega arith)
 nodes_of-read f (y ∷ xs) zero x h e = ap f (sym e)
 nodes_of-read f (y ∷ xs) (suc k) x h e = nodes_of-read f xs k x (omega arith) e
+
+-- one element more, each seen by a function
+pub map_more : {X Y : Type 0} (f : X → Y) (xs : List X) (i : ℕ) (d : X) → i < length xs → map f (take (i + 1) xs) ≡ map f (take i xs) ++ f (get_or xs i d) ∷ []
+map_more f xs i d h = ap (map f) (take_more xs i d h) ∙ map_push f (take i xs) (get_or xs i d)

@@ -88,6 +88,7 @@ impl Reader {
         options: Options,
         depth: u32,
     ) -> Result<bool, PatternRefusal>
+        requires { depth ≤ 100 }
         ensures { GivesStep result body.new self.new (adds body.old (single_item options depth self.old)) }
     {
         let at = self.place();

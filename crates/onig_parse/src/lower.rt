@@ -1,8 +1,10 @@
-ghost use Rattle.std.specs.Prelude.{◌≡◌, ◌<◌, ◌≤◌, map, length, IfOk};
+ghost use Rattle.std.specs.Prelude.{◌≡◌, ◌<◌, ◌≤◌, drop, map, length, IfOk};
 ghost use Rattle.pattern_defs.specs.Patterns.{AllIds, AllArms, AreNodes, IsNode};
 ghost use Rattle.syntax_defs.specs.Lengths.{lengths_of};
-ghost use Rattle.syntax_defs.specs.PatternMeaning.{FitsItem, FitsItems, FitsLists, StandsFor, arm_of};
+ghost use Rattle.syntax_defs.specs.PatternMeaning.{FitsItem, FitsItems, FitsLists, IsSetRead, StandsFor, arm_of};
+ghost use Rattle.syntax_defs.specs.Singles.{single_at};
 
+use char_sets::CharSet;
 use crate::draft::PatternDraft;
 use crate::lengths::length_of;
 use crate::parsed::ParsedText;
@@ -75,5 +77,25 @@ fn there(groups: u32, number: u32) -> Result<u32, AllocError>
         Ok(number)
     } else {
         Err(AllocError)
+    }
+}
+
+/// The set of a single item that was read before.
+fn set_again(
+    alloc: Global,
+    text: &[char],
+    at: usize,
+    options: Options,
+    depth: u32,
+) -> Result<CharSet, AllocError>
+    requires { length text.now ≤ 65_536 }
+    ensures { IfOk result (λ set. IsSetRead set (single_at options depth at (drop at text.now))) }
+{
+    if at > 65_536 || depth > 100 {
+        return Err(AllocError);
+    }
+    match read_single(alloc, text, at, options, depth) {
+        Ok((set, _)) => Ok(set),
+        Err(_) => Err(AllocError),
     }
 }
