@@ -1,8 +1,10 @@
 -- What a reader answers, and where it stands then.
-use Rattle.std.specs.Prelude.{◌≡◌, Bool, Result, Ok, Err}
+use Rattle.std.specs.Prelude.{◌≡◌, ℕ, List, Bool, Result, Ok, Err}
+use Rattle.pattern_defs.specs.Patterns.{Tree}
+use Rattle.syntax_defs.specs.PatternMeaning.{IsReadAs}
 use Rattle.syntax_defs.specs.declared.refusal.PatternRefusal.{PatternRefusal}
 use Rattle.syntax_defs.specs.Reading.{Fault, Fails}
-use Rattle.syntax_defs.specs.PatternSyntax.{Seen, Body, Stepped}
+use Rattle.syntax_defs.specs.PatternSyntax.{Seen, Body, Stepped, Parsed}
 
 -- a value that contracts see by view, and how far the text is read then, are what reading gives, unless memory ran out
 abbrev pub GivesNow : {X Y : Type 0} → (X → Y) → Result X PatternRefusal → Seen → Result (Y × Seen) Fault → Type 0
@@ -18,3 +20,8 @@ GivesStep (Err refusal) body now read = Fails refusal read
 abbrev pub GivesPlace : Result (Unit {0}) PatternRefusal → Seen → Result Seen Fault → Type 0
 GivesPlace (Ok _) now read = read ≡ Ok now
 GivesPlace (Err refusal) now read = Fails refusal read
+
+-- the pattern stands for what is read from the text, and a refusal is the fault, unless memory ran out
+abbrev pub GivesPattern : List ℕ → Result Tree PatternRefusal → Result Parsed Fault → Type 0
+GivesPattern text (Ok pattern) read = IsReadAs text pattern read
+GivesPattern text (Err refusal) read = Fails refusal read
