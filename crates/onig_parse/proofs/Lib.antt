@@ -1,1 +1,4 @@
-pub mod PartLemmas
+pub mod ListLemmas
+pub mod TextLemmas
+pub mod BodySteps
+pub mod FitsLemmas

@@ -1,2 +1,4 @@
+pub mod Drafts
 pub mod Kept
-pub mod Parts
+pub mod Reader
+pub mod Reading

@@ -1,8 +1,26 @@
 //! Patterns: how they are kept, and how they are read from their text.
 #![tactic(auto)]
 
+mod arms;
+mod body;
+mod count;
+pub mod draft;
+mod group;
+mod head;
+mod late;
+mod lengths;
+mod lower;
+mod parse;
+mod parsed;
 pub mod pattern;
+mod read;
+mod reader;
+mod sight;
+mod single;
+mod steps;
 
 pub use char_sets::{CharRange, CharSet};
+pub use draft::PatternDraft;
 pub use pattern::Pattern;
+pub use syntax_defs::PatternRefusal;
 pub use pattern_defs::{Anchor, Arm, Arms, ListId, ListIds, PatNode};

@@ -1,22 +1,15 @@
-ghost use Rattle.std.specs.Prelude.{◌≡◌, ◌<◌, ◌≤◌, length};
-ghost use Rattle.pattern_defs.specs.Patterns.{Tree, nodes_of, size_of, is_flat, AreNodes, AreLists};
-ghost use Rattle.onig_parse.specs.Parts.{part};
+ghost use Rattle.std.specs.Prelude.{◌≡◌, ◌<◌, length, map, sum_by};
+ghost use Rattle.std.specs.List.{list_all};
+ghost use Rattle.pattern_defs.specs.Patterns.{Tree, nodes_of, size_of, is_flat, is_plain, AllIds, AreNodes, AreLists};
 
 use pattern_defs::{ListId, PatNode};
 use std::marker::Model;
 
-/// Where a list of nodes lies among all nodes of its pattern.
-#[derive(Clone, Copy, Debug, PartialEq, Eq)]
-pub(crate) struct ListSpan {
-    pub(crate) from: usize,
-    pub(crate) to: usize,
-}
-
 /// A pattern, as numbered lists of nodes.
 #[derive(Debug, Drop)]
 pub struct Pattern {
-    nodes: Vec<PatNode>,
-    spans: Vec<ListSpan>,
+    lists: Vec<Vec<PatNode>>,
+    size: u32,
     top: ListId,
     groups: u32,
 }
@@ -33,20 +26,26 @@ impl Model for Pattern {
     ghost invariant = { IsKept };
 }
 
-fn part_of(nodes: &[PatNode], span: ListSpan) -> &[PatNode]
-    requires order { span.from ≤ span.to }
-    requires inside { span.to ≤ length nodes.now }
-    ensures { result.now ≡ part nodes.now span }
-{
-    &nodes[span.from..span.to]
-}
-
 impl Pattern {
+    /// The pattern of these lists, whose number of nodes the caller has counted.
+    pub(crate) fn of_lists(lists: Vec<Vec<PatNode>>, size: u32, top: ListId, groups: u32) -> Pattern
+        requires lists { AreLists 0 groups (map (λ nodes. nodes.items) lists.items) }
+        requires top { top.0 < length lists.items }
+        requires size { size ≡ sum_by length (map (λ nodes. nodes.items) lists.items) }
+        ensures { result ≡ record { lists = map (λ nodes. nodes.items) lists.items; top = top; groups = groups } }
+    {
+        Pattern {
+            lists,
+            size,
+            top,
+            groups,
+        }
+    }
+
     /// The list that is the whole pattern.
     pub fn top(&self) -> ListId
         ensures top { result ≡ self.now.top }
         ensures is_there { result.0 < length self.now.lists }
-        ensures names { AreLists 0 self.now.groups self.now.lists }
     {
         self.top
     }
@@ -58,12 +57,52 @@ impl Pattern {
         self.groups
     }
 
+    /// How many nodes it has.
+    pub fn size(&self) -> u32
+        ensures { result ≡ size_of self.now }
+    {
+        self.size
+    }
+
     /// The nodes of a list.
     pub fn list(&self, id: ListId) -> &[PatNode]
         requires { id.0 < length self.now.lists }
         ensures nodes { result.now ≡ nodes_of self.now.lists id }
         ensures names { AreNodes (length self.now.lists) self.now.groups result.now }
     {
-        part_of(&self.nodes, self.spans[id.0 as usize])
+        self.lists[id.0 as usize].as_slice()
     }
+
+    /// Whether it is a list of single characters and anchors, or one set of alternatives of such lists.
+    pub fn is_flat(&self) -> bool
+        ensures { result ≡ is_flat self.now }
+    {
+        match self.list(self.top()) {
+            [PatNode::Choice(ids)] => self.are_all_plain(ids.as_slice()),
+            nodes => are_plain(nodes),
+        }
+    }
+
+    /// Whether these lists hold single characters and anchors alone.
+    fn are_all_plain(&self, ids: &[ListId]) -> bool
+        requires { AllIds (length self.now.lists) ids.now }
+        ensures { result ≡ list_all (λ id. list_all is_plain (nodes_of self.now.lists id)) ids.now }
+    {
+        match ids {
+            [] => true,
+            [id, rest @ ..] => are_plain(self.list(*id)) && self.are_all_plain(rest),
+        }
+    }
+}
+
+fn is_plain_node(node: &PatNode) -> bool
+    ensures { result ≡ is_plain node.now }
+{
+    matches!(node, PatNode::One(_) | PatNode::At(_))
+}
+
+fn are_plain(nodes: &[PatNode]) -> bool
+    ensures { result ≡ list_all is_plain nodes.now }
+{
+    nodes.iter().all(is_plain_node)
 }

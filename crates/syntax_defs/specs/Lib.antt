@@ -2,4 +2,11 @@ pub mod ClassExamples
 pub mod Classes
 pub mod EscapeExamples
 pub mod Escapes
+pub mod Heads
+pub mod Lengths
+pub mod PatternExamples
+pub mod PatternMeaning
+pub mod PatternSyntax
 pub mod Reading
+pub mod Sights
+pub mod Singles

@@ -43,3 +43,8 @@ FitsRead Fits text x next (Err fault) = ⊥
 abbrev pub Gives : {X Y : Type 0} → (X → Y → Type 0) → List ℕ → Result (X × ℕ) PatternRefusal → Result (Read Y) Fault → Type 0
 Gives Fits text (Ok found) read = FitsRead Fits text found.0 found.1 read
 Gives Fits text (Err refusal) read = Fails refusal read
+
+-- the same of a value that contracts see by view, where no text is left
+abbrev pub Answers : {X Y : Type 0} → (X → Y) → Result X PatternRefusal → Result Y Fault → Type 0
+Answers view (Ok x) read = read ≡ Ok (view x)
+Answers view (Err refusal) read = Fails refusal read

@@ -2,7 +2,9 @@
 #![tactic(auto)]
 
 pub mod class_part;
+pub mod items;
 pub mod refusal;
 
 pub use class_part::ClassPart;
+pub use items::{Bounds, Form, GroupName, Head, Item, Options, Sight, Span, Target};
 pub use refusal::PatternRefusal;

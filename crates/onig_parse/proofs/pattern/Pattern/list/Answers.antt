@@ -1,27 +1,16 @@
-use Rattle.std.proofs.Common.{◌<◌, length, ap, subst, arith}
+use Rattle.std.proofs.Common.{◌≡◌, map, sym, ◌<◌, length, ap, subst, arith}
+use Rattle.std.proofs.lemmas.List.{length-map}
 use Rattle.pattern_defs.specs.Patterns.{Tree, nodes_of, AreNodes, AreLists}
-use Rattle.onig_parse.proofs.PartLemmas.{read_bounds, nodes_of-read, length-lists, AreNodes-list}
+use Rattle.onig_parse.proofs.ListLemmas.{AreNodes-list, nodes_of-read}
 use Rattle.onig_parse.proofs.pattern.Pattern.list.Goals as goal
-
-pub part_of-requires-clause-order : goal.part_of-requires-clause-order
-part_of-requires-clause-order c =
-    (read_bounds _ _ _ _ c.self.invariant.spans
-    (length-lists c.self.inside.nodes.items c.self.inside.spans.items _ _ (ap (λ t. t.lists) c.self.view_is) c.requires)
-    c.index.ensures).0
-
-pub part_of-requires-clause-inside : goal.part_of-requires-clause-inside
-part_of-requires-clause-inside c =
-    rw c.deref.ensures.value
-    (read_bounds _ _ _ _ c.self.invariant.spans
-    (length-lists c.self.inside.nodes.items c.self.inside.spans.items _ _ (ap (λ t. t.lists) c.self.view_is) c.requires)
-    c.index.ensures).1
 
 pub returns-clause-nodes : goal.returns-clause-nodes
 returns-clause-nodes c =
-    rw (c.part_of.ensures, c.deref.ensures.value, ← c.self.view_is)
-    (nodes_of-read _ _ _ _
-    (length-lists c.self.inside.nodes.items c.self.inside.spans.items _ _ (ap (λ t. t.lists) c.self.view_is) c.requires)
-    c.index.ensures)
+    let there : c.args.id.0 < length c.self.inside.lists.items =
+    let n : c.args.id.0 < length c.args.self.now.lists = c.requires in
+    let same : length (map (λ nodes. nodes.items) c.self.inside.lists.items) ≡ length c.args.self.now.lists = ap (λ t. length t.lists) c.self.view_is in
+    omega (arith, length-map c.self.inside.lists.items (λ nodes. nodes.items)) in
+    rw (c.as_slice.ensures.value, ← c.self.view_is) (sym (nodes_of-read (λ nodes. nodes.items) c.self.inside.lists.items c.args.id.0 c.index.result.now there c.index.ensures))
 
 pub returns-clause-names : goal.returns-clause-names
 returns-clause-names c =

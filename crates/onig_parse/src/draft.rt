@@ -1,0 +1,97 @@
+ghost use Rattle.std.specs.Prelude.{◌≡◌, ◌<◌, ◌≤◌, [], ◌∷◌, ◌++◌, length, max, IfOk, OnOk, OnErr};
+ghost use Rattle.pattern_defs.specs.Patterns.{AreNodes};
+
+use crate::count::counted;
+use crate::pattern::Pattern;
+use pattern_defs::{ListId, PatNode};
+use std::alloc::{AllocError, Global};
+use std::marker::Model;
+
+/// A pattern that is being put together, list by list. Clauses see the lists so far, and up to which number their
+/// nodes may name groups.
+#[derive(Debug, Drop)]
+pub struct PatternDraft {
+    lists: Vec<Vec<PatNode>>,
+    size: u32,
+    named: u32,
+}
+
+impl Model for PatternDraft {
+    ghost use Rattle.onig_parse.specs.Drafts.{Drafted};
+
+    ghost Value = { Drafted };
+
+    ghost use Rattle.onig_parse.specs.Kept.{drafted, IsDraft};
+
+    ghost view = { drafted };
+
+    ghost invariant = { IsDraft };
+}
+
+impl PatternDraft {
+    pub fn new(alloc: Global) -> PatternDraft
+        ensures { result ≡ record { lists = []; named = 0 } }
+    {
+        PatternDraft {
+            lists: Vec::new(alloc),
+            size: 0,
+            named: 0,
+        }
+    }
+
+    /// Later nodes may name groups up to this number.
+    pub fn allow_groups(&mut self, groups: u32)
+        ensures { self.new ≡ record self.old { named = max self.old.named groups } }
+    {
+        self.named = self.named.max(groups);
+    }
+
+    /// Adds a list, whose number is how many there were. 2^32 lists or nodes are more than memory has.
+    pub fn push_list(&mut self, nodes: Vec<PatNode>) -> Result<ListId, AllocError>
+        requires { AreNodes (length self.old.lists) self.old.named nodes.items }
+        ensures number { IfOk result (λ id. id.0 ≡ length self.old.lists) }
+        ensures ok { OnOk result (self.new ≡ record self.old { lists = self.old.lists ++ nodes.items ∷ [] }) }
+        ensures err { OnErr result (self.new ≡ self.old) }
+    {
+        let number = counted(0, self.lists.len())?;
+        let size = counted(self.size, nodes.len())?;
+        self.lists.push(nodes)?;
+        self.size = size;
+        Ok(ListId(number))
+    }
+
+    /// The pattern whose whole is the list `top`.
+    pub fn finish(self, top: ListId, groups: u32) -> Pattern
+        requires top { top.0 < length self.lists }
+        requires groups { self.named ≤ groups }
+        ensures { result ≡ record { lists = self.lists; top = top; groups = groups } }
+    {
+        Pattern::of_lists(self.lists, self.size, top, groups)
+    }
+}
+
+#[cfg(test)]
+mod tests {
+    use super::*;
+    use pattern_defs::Anchor;
+    use std::test::Fail;
+
+    #[test]
+    fn a_repeat_before_an_anchor(rt: HostRuntime) -> Result<(), Fail> {
+        let mut draft = PatternDraft::new(rt.alloc());
+        let body = draft.push_list(vec![in rt.alloc(); PatNode::At(Anchor::First)]?)?;
+        let repeat = PatNode::Repeat {
+            body,
+            least: 0,
+            most: None,
+            greedy: true,
+        };
+        let top = draft.push_list(vec![in rt.alloc(); repeat, PatNode::At(Anchor::End)]?)?;
+        let pattern = draft.finish(top, 0);
+        assert_eq!(rt; pattern.size(), 3);
+        assert_eq!(rt; pattern.groups(), 0);
+        assert!(rt; !pattern.is_flat());
+        assert_eq!(rt; pattern.list(body).len(), 1);
+        Ok(())
+    }
+}

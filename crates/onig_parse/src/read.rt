@@ -1,0 +1,50 @@
+ghost use Rattle.std.specs.Prelude.{◌≡◌, ◌≤◌, false, length, IfOk};
+ghost use Rattle.std.specs.Str.{chars};
+ghost use Rattle.syntax_defs.specs.Lengths.{read_pattern, read_within, tested, kept_unless};
+ghost use Rattle.syntax_defs.specs.PatternMeaning.{IsPatternOf, IsReadAs};
+ghost use Rattle.onig_parse.specs.Reading.{GivesPattern};
+
+use crate::late::late_fault;
+use crate::lengths::lengths_of;
+use crate::lower::lower;
+use crate::parse::parse;
+use crate::pattern::Pattern;
+use std::alloc::{AllocError, Global};
+use syntax_defs::PatternRefusal;
+
+/// The characters of a text.
+fn chars_of(alloc: Global, text: &str) -> Result<Vec<char>, AllocError>
+    ensures { IfOk result (λ cs. cs.items ≡ chars text.now) }
+{
+    text.chars().collect(alloc)
+}
+
+/// The pattern that a text is.
+fn read_chars(alloc: Global, text: &[char]) -> Result<Pattern, PatternRefusal>
+    requires { length text.now ≤ 65_536 }
+    ensures { GivesPattern text.now result (read_within false text.now) }
+{
+    let parsed = parse(alloc, text)?;
+    let lengths = lengths_of(alloc, parsed.lists())?;
+    if let Some(at) = late_fault(text, &parsed, &lengths) {
+        return Err(PatternRefusal::LeftOut { at: at as u64 });
+    }
+    Ok(lower(alloc, text, &parsed, &lengths)?)
+}
+
+impl Pattern {
+    /// Reads a pattern from its text: Oniguruma's RE with Ruby syntax. Which forms are left out, the limits and the
+    /// places of refusals are this project's own.
+    pub fn read(alloc: Global, text: &str) -> Result<Pattern, PatternRefusal>
+        ensures { GivesPattern (chars text.now) result (read_pattern (chars text.now)) }
+    {
+        let text = chars_of(alloc, text)?;
+        let count = text.len();
+        if count > 65_536 {
+            return Err(PatternRefusal::TooLong {
+                count: count as u64,
+            });
+        }
+        read_chars(alloc, text.as_slice())
+    }
+}
