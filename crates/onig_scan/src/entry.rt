@@ -3,7 +3,7 @@ ghost use Rattle.std.specs.Rc.{rc_value};
 ghost use Rattle.pattern_defs.specs.Attempt.{outcome_of, hit_after, attempt as attempted};
 
 use crate::front::{Front, MOST_DEEP, front_of};
-use crate::stub::{Work, attempt};
+use onig_match::{Work, attempt};
 use onig_parse::Pattern;
 use pattern_defs::{Flags, Outcome};
 use std::alloc::{AllocError, Global};

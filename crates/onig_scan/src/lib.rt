@@ -4,7 +4,6 @@
 mod entry;
 mod front;
 pub mod scanner;
-mod stub;
 
 pub use pattern_defs::{Flags, Found, Outcome, Place};
 pub use scanner::Scanner;

@@ -3,7 +3,7 @@ ghost use Rattle.std.specs.Rc.{rc_value};
 ghost use Rattle.pattern_defs.specs.FirstMatch.{pairs_at, first_of, found_at, captures_at, first_match, captures_after};
 
 use crate::entry::Entry;
-use crate::stub::Work;
+use onig_match::Work;
 use onig_parse::Pattern;
 use pattern_defs::{Flags, Found, Outcome};
 use std::alloc::{AllocError, Global};

@@ -3,7 +3,6 @@ use Rattle.std.specs.Rc.{rc_value}
 use Rattle.pattern_defs.specs.declared.outcomes.Found.TheVariants.{Nowhere}
 use Rattle.pattern_defs.specs.Patterns.{Tree}
 use Rattle.pattern_defs.specs.FirstMatch.{Pair, pairs_at, first_of, first_pair, found_at, captures_at}
-use Rattle.onig_scan.specs.Stub.{WorkView}
 use Rattle.onig_scan.proofs.Searches.{first_of-nowhere, first_pair-decided, first_pair-missed}
 use Rattle.onig_scan.proofs.scanner.Scanner.find.Goals as goal
 

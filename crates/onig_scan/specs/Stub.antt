@@ -1,7 +1,0 @@
-use Rattle.std.specs.Prelude.{ℕ}
-use Rattle.pattern_defs.specs.Attempt.{Captures}
-
-pub record WorkView : Type 0 where
-  pub budget : ℕ
-  pub room : ℕ
-  pub hit : Captures
