@@ -1,6 +1,6 @@
 -- A flat pattern takes at most a visit for each of its nodes and two more.
-use Rattle.std.proofs.Common.{◌≡◌, ℕ, zero, suc, ◌+◌, ◌-◌, ◌*◌, ◌<◌, ◌≤◌, List, [], ◌∷◌, ◌++◌, length, map, drop, replicate, refl, sym, ap, subst, ◌∙◌, arith}
-use Rattle.std.specs.Prelude.{Bool, true, false, ◌&&◌, IsTrue, sum_by, Option, Some, None, unwrap_or, slice_get}
+use Rattle.std.proofs.Common.{◌≡◌, ℕ, zero, suc, ◌+◌, ◌*◌, ◌<◌, ◌≤◌, List, [], ◌∷◌, ◌++◌, length, map, drop, replicate, refl, sym, subst, ◌∙◌, arith}
+use Rattle.std.specs.Prelude.{Bool, true, false, ◌&&◌, IsTrue, sum_by, None, unwrap_or, slice_get}
 use Rattle.std.specs.List.{list_all}
 use Rattle.std.proofs.lemmas.List.Sums.{sum_by-cons}
 use Rattle.pattern_defs.specs.declared.nodes.ListId.{ListId}
@@ -9,7 +9,7 @@ use Rattle.pattern_defs.specs.declared.nodes.PatNode.TheVariants.{One, At, Choic
 use Rattle.pattern_defs.specs.declared.outcomes.Flags.{Flags}
 use Rattle.pattern_defs.specs.declared.outcomes.Outcome.TheVariants as outcomes
 use Rattle.char_sets.specs.Ranges.{in_set}
-use Rattle.pattern_defs.specs.Patterns.{NodeLists, Tree, nodes_of, RiseFrom, IsNode, AreNodes, AreLists, size_of, is_plain, is_flat_choice, is_flat}
+use Rattle.pattern_defs.specs.Patterns.{NodeLists, Tree, nodes_of, RiseFrom, AreNodes, AreLists, size_of, is_plain, is_flat_choice, is_flat}
 use Rattle.pattern_defs.specs.Attempt.{Subject, Captures, Todo, Node, Ran, Hit, Miss, Spent, Going, before, or_else, where_holds, tries, is_char, holds_at, act, attempt, with_whole, outcome_of}
 use Rattle.onig_match.specs.Goes.{goes}
 use Rattle.onig_match.proofs.VisitCounts.{goes-zero, goes-none, goes-act}
