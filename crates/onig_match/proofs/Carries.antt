@@ -1,17 +1,17 @@
 -- What the stack stands for, after a cell, an entry or a change is added, and after going back.
-use Rattle.std.proofs.Common.{◌≡◌, ℕ, zero, suc, ◌+◌, ◌-◌, ◌<◌, ◌≤◌, ◌==◌, List, [], ◌∷◌, ◌++◌, length, take, drop, map, refl, sym, ap, cond, eqb, eq-eqb, ◌∙◌, arith}
-use Rattle.std.specs.Prelude.{Bool, true, false, Option, Some, None, slice_get, slice_set}
+use Rattle.std.proofs.Common.{◌≡◌, ℕ, zero, suc, ◌+◌, ◌-◌, ◌<◌, ◌≤◌, ◌==◌, List, [], ◌∷◌, length, take, drop, refl, ap, eq-eqb, ◌∙◌, arith}
+use Rattle.std.specs.Prelude.{true, false, Option, Some, slice_get, slice_set}
 use Rattle.std.proofs.lemmas.List.{length-drop}
 use Rattle.pattern_defs.specs.declared.outcomes.Place.{Place}
 use Rattle.pattern_defs.specs.Patterns.{NodeLists, Tree}
-use Rattle.pattern_defs.specs.Attempt.{Subject, Captures, Todo, Close, Again, Ran}
+use Rattle.pattern_defs.specs.Attempt.{Subject, Captures, Ran}
 use Rattle.onig_match.specs.declared.cells.Rest.{Rest}
 use Rattle.onig_match.specs.declared.cells.Cell.{Cell}
 use Rattle.onig_match.specs.declared.cells.Cell.TheVariants.{Nodes, GroupEnd, Iteration}
 use Rattle.onig_match.specs.declared.entries.Change.{Change}
 use Rattle.onig_match.specs.declared.entries.Entry.{Entry}
-use Rattle.onig_match.specs.Machine.{pick, kept, nodes_from, chain, todo_of, cell_todo, undone, captures_at, resumed, carry}
-use Rattle.onig_match.specs.Sound.{IsRest, IsCell, AreCells, IsEntry, AreEntries}
+use Rattle.onig_match.specs.Machine.{kept, chain, todo_of, cell_todo, undone, captures_at, resumed, carry}
+use Rattle.onig_match.specs.Sound.{AreEntries}
 
 -- lists with the newest item first
 

@@ -1,30 +1,29 @@
 -- How an attempt ends when no entry is left, and what each turn of it keeps.
-use Rattle.std.proofs.Common.{◌≡◌, ℕ, zero, suc, ◌+◌, ◌-◌, ◌*◌, ◌<◌, ◌≤◌, List, [], ◌∷◌, length, replicate, refl, sym, ap, subst, ◌∙◌, arith}
-use Rattle.std.specs.Prelude.{Bool, true, false, Option, Some, None, slice_set}
+use Rattle.std.proofs.Common.{◌≡◌, ℕ, zero, suc, ◌+◌, ◌-◌, ◌*◌, ◌<◌, List, [], ◌∷◌, length, replicate, refl, sym, subst, ◌∙◌, arith}
+use Rattle.std.specs.Prelude.{true, false, Option, Some, None, slice_set}
 use Rattle.std.proofs.lemmas.List.{length-replicate}
 use Rattle.pattern_defs.specs.declared.nodes.ListId.{ListId}
 use Rattle.pattern_defs.specs.declared.outcomes.Flags.{Flags}
 use Rattle.pattern_defs.specs.declared.outcomes.Outcome.TheVariants as outcomes
 use Rattle.pattern_defs.specs.declared.outcomes.Place.{Place}
 use Rattle.pattern_defs.specs.Patterns.{Tree}
-use Rattle.pattern_defs.specs.Attempt.{Subject, Captures, Ran, Hit, Miss, Spent, before, looked, or_else, kept_whole, attempt, with_whole, outcome_of, hit_after}
+use Rattle.pattern_defs.specs.Attempt.{Subject, Captures, Ran, Hit, Miss, Spent, before, attempt, with_whole, outcome_of, hit_after}
 use Rattle.onig_match.specs.declared.cells.Rest.{Rest}
 use Rattle.onig_match.specs.declared.cells.Cell.{Cell}
 use Rattle.onig_match.specs.declared.entries.Change.{Change}
-use Rattle.onig_match.specs.declared.entries.End.{End}
 use Rattle.onig_match.specs.declared.entries.End.TheVariants as ends
 use Rattle.onig_match.specs.declared.entries.Entry.{Entry}
 use Rattle.onig_match.specs.declared.entries.Point.{Point}
 use Rattle.onig_match.specs.declared.entries.Resume.{Resume}
 use Rattle.onig_match.specs.declared.entries.Resume.TheVariants.{Other, Alternatives, AfterAhead, AfterBehind, AfterAtomic}
 use Rattle.onig_match.specs.declared.entries.Step.{Step}
-use Rattle.onig_match.specs.declared.entries.Step.TheVariants.{Go, Found, Failed}
+use Rattle.onig_match.specs.declared.entries.Step.TheVariants.{Go}
 use Rattle.onig_match.specs.declared.area.Area.{Area}
 use Rattle.onig_match.specs.declared.searched.Searched.{Searched}
 use Rattle.onig_match.specs.Goes.{goes}
 use Rattle.onig_match.specs.Piles.{Piled}
-use Rattle.onig_match.specs.Machine.{subject, kept, captures_at, todo_of, resumed, carry, carried, ran_of, means, with_entry, end_of, rank}
-use Rattle.onig_match.specs.Sound.{IsRest, IsTaken, AreTaken, IsSound, IsStep, HasRoom, SameRooms, Leads}
+use Rattle.onig_match.specs.Machine.{subject, kept, captures_at, todo_of, resumed, carry, carried, means, with_entry, end_of, rank}
+use Rattle.onig_match.specs.Sound.{AreTaken, IsSound, IsStep, HasRoom, SameRooms, Leads}
 use Rattle.onig_match.proofs.VisitCounts.{goes-zero}
 use Rattle.onig_match.proofs.VisitSteps.{start, start_alone}
 

@@ -1,6 +1,6 @@
 -- A flat pattern takes at most a visit for each of its nodes and two more.
-use Rattle.std.proofs.Common.{◌≡◌, ℕ, zero, suc, ◌+◌, ◌-◌, ◌*◌, ◌<◌, ◌≤◌, List, [], ◌∷◌, ◌++◌, length, map, drop, replicate, refl, sym, ap, subst, ◌∙◌, arith}
-use Rattle.std.specs.Prelude.{Bool, true, false, ◌&&◌, IsTrue, sum_by, Option, Some, None, unwrap_or, slice_get}
+use Rattle.std.proofs.Common.{◌≡◌, ℕ, zero, suc, ◌+◌, ◌*◌, ◌<◌, ◌≤◌, List, [], ◌∷◌, ◌++◌, length, map, drop, replicate, refl, sym, subst, ◌∙◌, arith}
+use Rattle.std.specs.Prelude.{Bool, true, false, ◌&&◌, IsTrue, sum_by, None, unwrap_or, slice_get}
 use Rattle.std.specs.List.{list_all}
 use Rattle.std.proofs.lemmas.List.Sums.{sum_by-cons}
 use Rattle.pattern_defs.specs.declared.nodes.ListId.{ListId}
@@ -9,36 +9,36 @@ use Rattle.pattern_defs.specs.declared.nodes.PatNode.TheVariants.{One, At, Choic
 use Rattle.pattern_defs.specs.declared.outcomes.Flags.{Flags}
 use Rattle.pattern_defs.specs.declared.outcomes.Outcome.TheVariants as outcomes
 use Rattle.char_sets.specs.Ranges.{in_set}
-use Rattle.pattern_defs.specs.Patterns.{NodeLists, Tree, nodes_of, RiseFrom, IsNode, AreNodes, AreLists, size_of, is_plain, is_flat_choice, is_flat}
+use Rattle.pattern_defs.specs.Patterns.{NodeLists, Tree, nodes_of, RiseFrom, AreNodes, AreLists, size_of, is_plain, is_flat_choice, is_flat}
 use Rattle.pattern_defs.specs.Attempt.{Subject, Captures, Todo, Node, Ran, Hit, Miss, Spent, Going, before, or_else, where_holds, tries, is_char, holds_at, act, attempt, with_whole, outcome_of}
 use Rattle.onig_match.specs.Goes.{goes}
 use Rattle.onig_match.proofs.VisitCounts.{goes-zero, goes-none, goes-act}
 use Rattle.onig_match.proofs.Ends.{attempt-goes}
 
 -- how many visits are missing at the end: so many at most
-abbrev pub Takes : ℕ → ℕ → Ran → Type 0
-Takes most left (Hit at captures rest) = Unit {0}
-Takes most left (Miss rest) = left ≤ rest + most
-Takes most left Spent = left ≤ most
+abbrev pub Uses : ℕ → ℕ → Ran → Type 0
+Uses most left (Hit at captures rest) = Unit {0}
+Uses most left (Miss rest) = left ≤ rest + most
+Uses most left Spent = left ≤ most
 
-Takes-suc : (most left : ℕ) (ran : Ran) → Takes most left ran → Takes (suc most) (suc left) ran
-Takes-suc most left (Hit at captures rest) t = tt
-Takes-suc most left (Miss rest) t = omega arith
-Takes-suc most left Spent t = omega arith
+Uses-suc : (most left : ℕ) (ran : Ran) → Uses most left ran → Uses (suc most) (suc left) ran
+Uses-suc most left (Hit at captures rest) t = tt
+Uses-suc most left (Miss rest) t = omega arith
+Uses-suc most left Spent t = omega arith
 
-Takes-widen : (a b left : ℕ) (ran : Ran) → Takes a left ran → a ≤ b → Takes b left ran
-Takes-widen a b left (Hit at captures rest) t h = tt
-Takes-widen a b left (Miss rest) t h = omega arith
-Takes-widen a b left Spent t h = omega arith
+Uses-widen : (a b left : ℕ) (ran : Ran) → Uses a left ran → a ≤ b → Uses b left ran
+Uses-widen a b left (Hit at captures rest) t h = tt
+Uses-widen a b left (Miss rest) t h = omega arith
+Uses-widen a b left Spent t h = omega arith
 
 holding : (b : Bool) (go : Going) (todo : List Todo) (at : ℕ) (captures : Captures) (most left : ℕ) →
-    Takes most left (go todo at captures left) → Takes (suc most) (suc left) (where_holds b go todo at captures left)
-holding true go todo at captures most left t = Takes-suc most left (go todo at captures left) t
+    Uses most left (go todo at captures left) → Uses (suc most) (suc left) (where_holds b go todo at captures left)
+holding true go todo at captures most left t = Uses-suc most left (go todo at captures left) t
 holding false go todo at captures most left t = omega arith
 
 plain_first : (s : Subject) (node : PatNode) (rest : List Todo) (at : ℕ) (captures : Captures) (most left : ℕ) →
-    is_plain node ≡ true → ((place : ℕ) → Takes most left (goes s rest place captures left)) →
-    Takes (suc most) (suc left) (act s (goes s) (Node node) rest at captures left)
+    is_plain node ≡ true → ((place : ℕ) → Uses most left (goes s rest place captures left)) →
+    Uses (suc most) (suc left) (act s (goes s) (Node node) rest at captures left)
 plain_first s (One set) rest at captures most left plain t = holding (is_char (in_set set) (slice_get s.text at)) (goes s) rest (at + 1) captures most left (t (at + 1))
 plain_first s (At anchor) rest at captures most left plain t = holding (holds_at anchor s at) (goes s) rest at captures most left (t at)
 plain_first s (Choice ids) rest at captures most left plain t = cc
@@ -54,7 +54,7 @@ both true b e = (refl, e)
 both false b e = cc
 
 plain_takes : (s : Subject) (nodes : List PatNode) (at : ℕ) (captures : Captures) (left : ℕ) →
-    list_all is_plain nodes ≡ true → Takes (length nodes) left (goes s (map Node nodes ++ []) at captures left)
+    list_all is_plain nodes ≡ true → Uses (length nodes) left (goes s (map Node nodes ++ []) at captures left)
 plain_takes s nodes at captures zero plain = rw (goes-zero s (map Node nodes ++ []) at captures) (omega arith)
 plain_takes s [] at captures (suc left) plain = rw (goes-none s at captures left) tt
 plain_takes s (node ∷ nodes) at captures (suc left) plain =
@@ -67,12 +67,12 @@ plain_takes s (node ∷ nodes) at captures (suc left) plain =
 abbrev pub ways_size : NodeLists → List ListId → ℕ
 ways_size lists ids = sum_by (λ id. length (nodes_of lists id)) ids
 
-one_then : (ran : Ran) (next : ℕ → Ran) (a b left : ℕ) → Takes a left ran → ((rest : ℕ) →
-    Takes b rest (next rest)) → Takes (a + b) left (or_else ran next)
+one_then : (ran : Ran) (next : ℕ → Ran) (a b left : ℕ) → Uses a left ran → ((rest : ℕ) →
+    Uses b rest (next rest)) → Uses (a + b) left (or_else ran next)
 one_then (Hit at captures rest) next a b left t more = tt
 one_then (Miss rest) next a b left t more = later (next rest) (more rest)
   where
-    later : (ran : Ran) → Takes b rest ran → Takes (a + b) left ran
+    later : (ran : Ran) → Uses b rest ran → Uses (a + b) left ran
     later (Hit at captures end) u = tt
     later (Miss end) u = omega (arith, t)
     later Spent u = omega (arith, t)
@@ -80,7 +80,7 @@ one_then Spent next a b left t more = omega arith
 
 ways_take : (s : Subject) (ids : List ListId) (at : ℕ) (captures : Captures) (left : ℕ) →
     list_all (λ id. list_all is_plain (nodes_of s.lists id)) ids ≡ true →
-    Takes (ways_size s.lists ids) left (tries (goes s) (map (λ id. before s.lists id []) ids) at captures left)
+    Uses (ways_size s.lists ids) left (tries (goes s) (map (λ id. before s.lists id []) ids) at captures left)
 ways_take s [] at captures left plain = omega arith
 ways_take s (id ∷ ids) at captures left plain =
     let parts : (list_all is_plain (nodes_of s.lists id) ≡ true) × (list_all (λ way. list_all is_plain (nodes_of s.lists way)) ids ≡ true) =
@@ -92,11 +92,11 @@ ways_take s (id ∷ ids) at captures left plain =
 
 choice_takes : (s : Subject) (ids : List ListId) (at : ℕ) (captures : Captures) (left : ℕ) →
     list_all (λ id. list_all is_plain (nodes_of s.lists id)) ids ≡ true →
-    Takes (suc (ways_size s.lists ids)) left (goes s (Node (Choice ids) ∷ []) at captures left)
+    Uses (suc (ways_size s.lists ids)) left (goes s (Node (Choice ids) ∷ []) at captures left)
 choice_takes s ids at captures zero plain = rw (goes-zero s (Node (Choice ids) ∷ []) at captures) (omega arith)
 choice_takes s ids at captures (suc left) plain =
     rw (goes-act s (Node (Choice ids)) [] at captures left)
-    (Takes-suc (ways_size s.lists ids) left _ (ways_take s ids at captures left plain))
+    (Uses-suc (ways_size s.lists ids) left _ (ways_take s ids at captures left plain))
 
 -- sizes
 
@@ -121,13 +121,13 @@ Fits lists nodes size = (length nodes ≤ size) × ((ids : List ListId) → node
 
 flat_takes : (s : Subject) (nodes : List PatNode) (size at : ℕ) (captures : Captures) (left : ℕ) →
     is_flat_choice s.lists nodes ≡ true → Fits s.lists nodes size →
-    Takes (suc size) left (goes s (map Node nodes ++ []) at captures left)
-flat_takes s [] size at captures left flat fits = Takes-widen 0 (suc size) left _ (plain_takes s [] at captures left flat) (omega arith)
+    Uses (suc size) left (goes s (map Node nodes ++ []) at captures left)
+flat_takes s [] size at captures left flat fits = Uses-widen 0 (suc size) left _ (plain_takes s [] at captures left flat) (omega arith)
 flat_takes s (Choice ids ∷ []) size at captures left flat fits =
-    Takes-widen (suc (ways_size s.lists ids)) (suc size) left _ (choice_takes s ids at captures left flat) (omega (arith, fits.1 ids refl))
+    Uses-widen (suc (ways_size s.lists ids)) (suc size) left _ (choice_takes s ids at captures left flat) (omega (arith, fits.1 ids refl))
 flat_takes s (Choice ids ∷ node ∷ nodes) size at captures left flat fits = cc
-flat_takes s (One set ∷ nodes) size at captures left flat fits = Takes-widen (suc (length nodes)) (suc size) left _ (plain_takes s (One set ∷ nodes) at captures left flat) (omega (arith, fits.0))
-flat_takes s (At anchor ∷ nodes) size at captures left flat fits = Takes-widen (suc (length nodes)) (suc size) left _ (plain_takes s (At anchor ∷ nodes) at captures left flat) (omega (arith, fits.0))
+flat_takes s (One set ∷ nodes) size at captures left flat fits = Uses-widen (suc (length nodes)) (suc size) left _ (plain_takes s (One set ∷ nodes) at captures left flat) (omega (arith, fits.0))
+flat_takes s (At anchor ∷ nodes) size at captures left flat fits = Uses-widen (suc (length nodes)) (suc size) left _ (plain_takes s (At anchor ∷ nodes) at captures left flat) (omega (arith, fits.0))
 flat_takes s (Group number body ∷ nodes) size at captures left flat fits = cc
 flat_takes s (Repeat body least most greedy ∷ nodes) size at captures left flat fits = cc
 flat_takes s (Ahead body wanted ∷ nodes) size at captures left flat fits = cc
@@ -135,7 +135,7 @@ flat_takes s (Behind arms wanted ∷ nodes) size at captures left flat fits = cc
 flat_takes s (Atomic body ∷ nodes) size at captures left flat fits = cc
 flat_takes s (Back number fold ∷ nodes) size at captures left flat fits = cc
 
-not_spent : (most left at : ℕ) (ran : Ran) → Takes most left ran → most < left →
+not_spent : (most left at : ℕ) (ran : Ran) → Uses most left ran → most < left →
     outcomes.Spent ≡ outcome_of (with_whole at ran) → ⊥
 not_spent most left at (Hit place captures rest) t h e = cc
 not_spent most left at (Miss rest) t h e = cc
@@ -161,6 +161,6 @@ pub flat_is_never_spent : (tree : Tree) (text : List ℕ) (at : ℕ) (flags : Fl
     outcomes.Spent ≡ outcome_of (attempt tree text at flags budget) → ⊥
 flat_is_never_spent tree text at flags budget are flat enough e =
     let s : Subject = record { lists = tree.lists; text = text; flags = flags } in
-    let takes : Takes (suc (size_of tree)) budget (goes s (map Node (nodes_of tree.lists tree.top) ++ []) at (replicate (tree.groups + 1) None) budget) =
+    let takes : Uses (suc (size_of tree)) budget (goes s (map Node (nodes_of tree.lists tree.top) ++ []) at (replicate (tree.groups + 1) None) budget) =
     flat_takes s (nodes_of tree.lists tree.top) (size_of tree) at (replicate (tree.groups + 1) None) budget flat (list_fits 0 tree.groups tree.lists (nodes_of tree.lists tree.top) tree.top.0 are refl) in
     not_spent (suc (size_of tree)) budget at _ takes (omega arith) (let meant = rw (attempt-goes tree text at flags budget) at e in meant)

@@ -1,6 +1,6 @@
 -- Lists of characters and of arms, item by item.
-use Rattle.std.proofs.Common.{◌≡◌, ℕ, zero, suc, ◌+◌, ◌-◌, ◌<◌, ◌≤◌, List, [], ◌∷◌, length, take, drop, map, get_or, cond, refl, sym, ap, ◌∙◌, arith}
-use Rattle.std.specs.Prelude.{Bool, true, false, ◌&&◌, nat_eq, nat_le, filter}
+use Rattle.std.proofs.Common.{◌≡◌, ℕ, zero, suc, ◌<◌, List, [], ◌∷◌, length, drop, map, get_or, cond, refl, arith}
+use Rattle.std.specs.Prelude.{Bool, true, false, ◌&&◌, nat_eq, filter}
 use Rattle.std.specs.List.{starts_with}
 use Rattle.std.specs.Char.{to_ascii_lowercase}
 

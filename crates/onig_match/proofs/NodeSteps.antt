@@ -1,10 +1,9 @@
 -- How a visit of a node leads on, and what is known of the nodes of a pattern.
-use Rattle.std.proofs.Common.{◌≡◌, ℕ, zero, suc, ◌+◌, ◌-◌, ◌<◌, ◌≤◌, List, [], ◌∷◌, ◌++◌, length, take, drop, map, get_or, cond, refl, sym, ap, subst, ◌∙◌, arith}
-use Rattle.std.specs.Prelude.{Bool, true, false, nat_eq, nat_le, filter, Option, Some, None, IfSome, slice_get, slice_range}
-use Rattle.std.specs.List.{starts_with}
+use Rattle.std.proofs.Common.{◌≡◌, ℕ, zero, suc, ◌+◌, ◌-◌, ◌<◌, ◌≤◌, List, [], ◌∷◌, length, drop, get_or, cond, refl, sym, ap, subst, ◌∙◌, arith}
+use Rattle.std.specs.Prelude.{Bool, true, false, nat_le, filter, Option, Some, None, IfSome, slice_get, slice_range}
 use Rattle.std.specs.Char.{to_ascii_lowercase}
 use Rattle.std.proofs.lemmas.List.{length-drop, length-take, length-map}
-use Rattle.std.proofs.lemmas.Option.{slice_get_within, slice_get_read}
+use Rattle.std.proofs.lemmas.Option.{slice_get_read}
 use Rattle.char_sets.specs.Ranges.{in_set}
 use Rattle.char_sets.specs.declared.char_set.CharRange.{CharRange}
 use Rattle.pattern_defs.specs.declared.nodes.ListId.{ListId}
@@ -14,7 +13,7 @@ use Rattle.pattern_defs.specs.declared.nodes.PatNode.TheVariants.{One, At, Choic
 use Rattle.pattern_defs.specs.declared.nodes.Anchor.{Anchor}
 use Rattle.pattern_defs.specs.declared.outcomes.Place.{Place}
 use Rattle.pattern_defs.specs.Patterns.{NodeLists, nodes_of, AllIds, AllArms, IsNode, AreNodes}
-use Rattle.pattern_defs.specs.Attempt.{Subject, Captures, Todo, Node, Ran, Hit, Miss, where_holds, is_char, holds_at, capture_of, folded, stands_again, backs, act}
+use Rattle.pattern_defs.specs.Attempt.{Todo, Node, Ran, where_holds, is_char, holds_at, capture_of, folded, stands_again, act}
 use Rattle.onig_match.specs.declared.cells.Rest.{Rest}
 use Rattle.onig_match.specs.declared.cells.NodeAt.{NodeAt}
 use Rattle.onig_match.specs.declared.cells.Cell.{Cell}
@@ -25,7 +24,7 @@ use Rattle.onig_match.specs.declared.area.Area.{Area}
 use Rattle.onig_match.specs.declared.searched.Searched.{Searched}
 use Rattle.onig_match.specs.Goes.{goes}
 use Rattle.onig_match.specs.Machine.{subject, todo_of, carried, means, acted, ids_in, ids_at, arms_in, arms_at, behind_node, step_where, step_back}
-use Rattle.onig_match.specs.Sound.{IsRest, IsTaken, IsSound, IsHere, Leads, IsNextArm}
+use Rattle.onig_match.specs.Sound.{IsTaken, IsHere, Leads, IsNextArm}
 use Rattle.onig_match.proofs.Lists.{starts_with_longer}
 use Rattle.onig_match.proofs.Steps.{AddsCell-none, lead_added}
 use Rattle.onig_match.proofs.ReturnSteps.{drop_some}

@@ -1,17 +1,13 @@
 -- How going back, and an end of an attempt of its own, lead on.
-use Rattle.std.proofs.Common.{◌≡◌, ℕ, zero, suc, ◌+◌, ◌-◌, ◌*◌, ◌^◌, ◌<◌, ◌≤◌, List, [], ◌∷◌, ◌++◌, length, take, drop, map, cond, refl, sym, ap, subst, ◌∙◌, arith}
-use Rattle.std.specs.Prelude.{Bool, true, false, nat_le, filter, Option, Some, None, slice_get, slice_set}
-use Rattle.std.proofs.lemmas.List.{length-drop}
+use Rattle.std.proofs.Common.{◌≡◌, ℕ, zero, suc, ◌+◌, ◌-◌, ◌<◌, ◌≤◌, List, [], ◌∷◌, length, drop, cond, refl, sym, ap, subst, ◌∙◌, arith}
+use Rattle.std.specs.Prelude.{Bool, true, false, nat_le, filter, Some, None, slice_get}
 use Rattle.std.proofs.lemmas.Bool.{le-leb}
 use Rattle.pattern_defs.specs.declared.nodes.ListId.{ListId}
 use Rattle.pattern_defs.specs.declared.nodes.Arm.{Arm}
-use Rattle.pattern_defs.specs.declared.outcomes.Place.{Place}
-use Rattle.pattern_defs.specs.Patterns.{NodeLists, Tree}
-use Rattle.pattern_defs.specs.Attempt.{Subject, Captures, Todo, Ran, Hit, Miss, Spent, Going, before, or_else, where_holds, tries, looked, arms_run, kept_whole}
+use Rattle.pattern_defs.specs.Attempt.{Subject, Captures, Ran, Hit, Miss, Spent, Going, before, or_else, where_holds, looked, arms_run}
 use Rattle.onig_match.specs.declared.cells.Rest.{Rest}
 use Rattle.onig_match.specs.declared.cells.NodeAt.{NodeAt}
 use Rattle.onig_match.specs.declared.cells.Cell.{Cell}
-use Rattle.onig_match.specs.declared.entries.Change.{Change}
 use Rattle.onig_match.specs.declared.entries.Entry.{Entry}
 use Rattle.onig_match.specs.declared.entries.Resume.{Resume}
 use Rattle.onig_match.specs.declared.entries.Resume.TheVariants.{Other, Alternatives, AfterAhead, AfterBehind, AfterAtomic}
@@ -20,11 +16,10 @@ use Rattle.onig_match.specs.declared.entries.Step.TheVariants.{Go, Found, Failed
 use Rattle.onig_match.specs.declared.area.Area.{Area}
 use Rattle.onig_match.specs.declared.searched.Searched.{Searched}
 use Rattle.onig_match.specs.Goes.{goes}
-use Rattle.onig_match.specs.Piles.{Piled}
-use Rattle.onig_match.specs.Machine.{subject, kept, chain, todo_of, captures_at, resumed, carry, carried, ran_of, with_entry, ids_at, arms_at, rank}
-use Rattle.onig_match.specs.Sound.{IsRest, AreCells, IsResume, IsEntry, AreEntries, IsSound, IsStep, HasRoom, Leads, IsNextArm}
-use Rattle.onig_match.proofs.Carries.{length-kept, carry-entry, carry-skip, chain-zero}
-use Rattle.onig_match.proofs.Steps.{IsRest-widen, AreEntries-widen, AreCells-drop, AreChanges-drop, AreTaken-undone, length-undone, made, sound_entered, rank_small}
+use Rattle.onig_match.specs.Machine.{subject, kept, todo_of, captures_at, resumed, carried, ran_of, with_entry, ids_at, arms_at, rank}
+use Rattle.onig_match.specs.Sound.{IsResume, IsSound, IsStep, HasRoom, Leads, IsNextArm}
+use Rattle.onig_match.proofs.Carries.{length-kept, carry-entry, carry-skip}
+use Rattle.onig_match.proofs.Steps.{AreEntries-widen, AreCells-drop, AreChanges-drop, AreTaken-undone, length-undone, made, sound_entered, rank_small}
 use Rattle.onig_match.proofs.VisitSteps.{start, start_alone, with_cells}
 
 -- everything as it was at the entry

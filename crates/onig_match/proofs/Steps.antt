@@ -1,10 +1,10 @@
 -- What holds of the stack after each change of it, and how a step leads on.
-use Rattle.std.proofs.Common.{◌≡◌, ℕ, zero, suc, ◌+◌, ◌-◌, ◌*◌, ◌^◌, ◌<◌, ◌≤◌, List, [], ◌∷◌, ◌++◌, length, take, drop, map, refl, sym, ap, subst, ◌∙◌, arith}
-use Rattle.std.specs.Prelude.{Bool, true, false, Option, Some, None, slice_get, slice_set}
-use Rattle.std.proofs.lemmas.List.{length-drop, length-set}
+use Rattle.std.proofs.Common.{◌≡◌, ℕ, zero, suc, ◌+◌, ◌-◌, ◌<◌, ◌≤◌, List, [], ◌∷◌, length, take, drop, refl, sym, ap, subst, ◌∙◌, arith}
+use Rattle.std.specs.Prelude.{Option, Some, slice_get, slice_set}
+use Rattle.std.proofs.lemmas.List.{length-set}
 use Rattle.pattern_defs.specs.declared.outcomes.Place.{Place}
 use Rattle.pattern_defs.specs.Patterns.{NodeLists, Tree}
-use Rattle.pattern_defs.specs.Attempt.{Subject, Captures, Todo, Close, Again, Ran, Hit, Miss}
+use Rattle.pattern_defs.specs.Attempt.{Captures, Todo, Close, Again, Ran}
 use Rattle.onig_match.specs.declared.cells.Rest.{Rest}
 use Rattle.onig_match.specs.declared.cells.Cell.{Cell}
 use Rattle.onig_match.specs.declared.cells.Cell.TheVariants.{Nodes, GroupEnd, Iteration}
@@ -16,9 +16,9 @@ use Rattle.onig_match.specs.declared.entries.Step.TheVariants.{Go, Found, Failed
 use Rattle.onig_match.specs.declared.area.Area.{Area}
 use Rattle.onig_match.specs.declared.searched.Searched.{Searched}
 use Rattle.onig_match.specs.Piles.{Piled}
-use Rattle.onig_match.specs.Machine.{subject, kept, chain, todo_of, cell_todo, undone, captures_at, resumed, carry, carried, ran_of, means, with_entry, rank}
-use Rattle.onig_match.specs.Sound.{IsRest, IsCell, AreCells, IsResume, IsEntry, AreEntries, IsTaken, AreTaken, AreChanges, IsSound, IsStep, HasRoom, SameRooms, Leads, AddsCell, Takes}
-use Rattle.onig_match.proofs.Carries.{length-kept, chain-older, chain-newest, todo_of-older, carry-cell, carry-change, carry-entry, carry-skip}
+use Rattle.onig_match.specs.Machine.{subject, kept, chain, cell_todo, undone, captures_at, resumed, carried, ran_of, with_entry, rank}
+use Rattle.onig_match.specs.Sound.{IsRest, IsCell, AreCells, IsResume, AreEntries, IsTaken, AreTaken, AreChanges, IsSound, IsStep, Leads, AddsCell}
+use Rattle.onig_match.proofs.Carries.{chain-older, chain-newest, todo_of-older, carry-cell, carry-entry}
 
 -- what holds of the parts
 

@@ -1,13 +1,11 @@
 -- An attempt takes at least a visit for each step, so that what bounds how deep it goes shows nowhere.
-use Rattle.std.proofs.Common.{◌≡◌, ℕ, zero, suc, ◌+◌, ◌-◌, ◌<◌, ◌≤◌, List, [], ◌∷◌, ◌++◌, map, refl, sym, ap, ◌∙◌, arith}
-use Rattle.std.specs.Prelude.{Bool, true, false, Option, Some, None, nat_le, nat_lt, slice_get, slice_set, ◌==◌, ◌&&◌}
+use Rattle.std.proofs.Common.{◌≡◌, ℕ, zero, suc, ◌+◌, ◌-◌, ◌≤◌, List, [], ◌∷◌, map, refl, sym, ◌∙◌, arith}
+use Rattle.std.specs.Prelude.{Bool, true, false, Option, Some, None, nat_le, slice_get, slice_set}
 use Rattle.char_sets.specs.Ranges.{in_set}
-use Rattle.pattern_defs.specs.declared.nodes.ListId.{ListId}
 use Rattle.pattern_defs.specs.declared.nodes.Arm.{Arm}
-use Rattle.pattern_defs.specs.declared.nodes.PatNode.{PatNode}
 use Rattle.pattern_defs.specs.declared.nodes.PatNode.TheVariants.{One, At, Choice, Group, Repeat, Ahead, Behind, Atomic, Back}
 use Rattle.pattern_defs.specs.declared.outcomes.Place.{Place}
-use Rattle.pattern_defs.specs.Attempt.{Subject, Captures, Todo, Node, Close, Again, Ran, Hit, Miss, Spent, Going, before, or_else, where_holds, tries, is_char, holds_at, repeats, repeat_ways, is_greatest, looked, arms_run, kept_whole, capture_of, stands_again, backs, act, look, go_on}
+use Rattle.pattern_defs.specs.Attempt.{Subject, Captures, Todo, Node, Close, Again, Ran, Hit, Miss, Spent, Going, before, or_else, where_holds, tries, is_char, holds_at, looked, arms_run, kept_whole, capture_of, stands_again, backs, act, look, go_on}
 use Rattle.onig_match.specs.Goes.{goes}
 
 abbrev pub left_of : Ran → ℕ

@@ -1,29 +1,25 @@
 -- How each visit leads on.
-use Rattle.std.proofs.Common.{◌≡◌, ℕ, zero, suc, ◌+◌, ◌-◌, ◌^◌, ◌<◌, ◌≤◌, ◌==◌, List, [], ◌∷◌, ◌++◌, length, drop, map, refl, sym, ap, subst, ◌∙◌, arith}
-use Rattle.std.specs.Prelude.{Bool, true, false, not, nat_lt, ◌&&◌, Option, Some, None, slice_get, slice_set}
+use Rattle.std.proofs.Common.{◌≡◌, ℕ, suc, ◌+◌, ◌<◌, ◌≤◌, ◌==◌, List, [], ◌∷◌, length, refl, sym, ap, ◌∙◌, arith}
+use Rattle.std.specs.Prelude.{Bool, true, false, nat_lt, ◌&&◌, Option, Some}
 use Rattle.std.proofs.lemmas.List.{length-set}
 use Rattle.pattern_defs.specs.declared.nodes.ListId.{ListId}
-use Rattle.pattern_defs.specs.declared.nodes.PatNode.TheVariants.{Choice, Group, Ahead, Behind, Atomic}
+use Rattle.pattern_defs.specs.declared.nodes.PatNode.TheVariants.{Choice, Group, Ahead, Atomic}
 use Rattle.pattern_defs.specs.declared.outcomes.Place.{Place}
-use Rattle.pattern_defs.specs.Patterns.{NodeLists, Tree, nodes_of}
-use Rattle.pattern_defs.specs.Attempt.{Subject, Captures, Todo, Node, Close, Again, Ran, Hit, Miss, Spent, before, or_else, tries, looked, arms_run, kept_whole, repeats, repeat_ways, is_greatest, act}
+use Rattle.pattern_defs.specs.Patterns.{NodeLists}
+use Rattle.pattern_defs.specs.Attempt.{Subject, Todo, Node, Close, Again, Ran, Hit, Miss, Spent, before, or_else, repeats, is_greatest}
 use Rattle.onig_match.specs.declared.cells.Rest.{Rest}
 use Rattle.onig_match.specs.declared.cells.NodeAt.{NodeAt}
 use Rattle.onig_match.specs.declared.cells.Repeated.{Repeated}
 use Rattle.onig_match.specs.declared.cells.Cell.{Cell}
-use Rattle.onig_match.specs.declared.cells.Cell.TheVariants.{Nodes, GroupEnd, Iteration}
-use Rattle.onig_match.specs.declared.entries.Change.{Change}
-use Rattle.onig_match.specs.declared.entries.Entry.{Entry}
-use Rattle.onig_match.specs.declared.entries.Resume.{Resume}
-use Rattle.onig_match.specs.declared.entries.Resume.TheVariants.{Other, Alternatives, AfterAhead, AfterBehind, AfterAtomic}
-use Rattle.onig_match.specs.declared.entries.Step.{Step}
-use Rattle.onig_match.specs.declared.entries.Step.TheVariants.{Go, Found, Failed}
+use Rattle.onig_match.specs.declared.cells.Cell.TheVariants.{GroupEnd, Iteration}
+use Rattle.onig_match.specs.declared.entries.Resume.TheVariants.{Other, Alternatives, AfterAhead, AfterAtomic}
+use Rattle.onig_match.specs.declared.entries.Step.TheVariants.{Go, Failed}
 use Rattle.onig_match.specs.declared.area.Area.{Area}
 use Rattle.onig_match.specs.declared.searched.Searched.{Searched}
 use Rattle.onig_match.specs.Goes.{goes}
 use Rattle.onig_match.specs.Piles.{Piled}
-use Rattle.onig_match.specs.Machine.{subject, chain, todo_of, cell_todo, resumed, carry, carried, ran_of, with_entry, acted, ids_at}
-use Rattle.onig_match.specs.Sound.{IsRest, IsCell, AreTaken, IsSound, IsStep, IsHere, HasRoom, Leads, AddsCell, Takes}
+use Rattle.onig_match.specs.Machine.{subject, chain, todo_of, cell_todo, carried, with_entry, acted, ids_at}
+use Rattle.onig_match.specs.Sound.{IsSound, IsHere, Leads, AddsCell, Takes}
 use Rattle.onig_match.proofs.Carries.{chain-zero, chain-newest, carry-change}
 use Rattle.onig_match.proofs.Steps.{IsRest-widen, AreEntries-widen, AreTaken-set, AreTaken-get, AddsCell-none, AddsCell-new, made, lead_added, lead_entered}
 

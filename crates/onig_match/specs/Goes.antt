@@ -1,5 +1,4 @@
 -- An attempt by the visits that are left alone: as deep as it may go.
-use Rattle.std.specs.Prelude.{List}
 use Rattle.pattern_defs.specs.Attempt.{Subject, Going, go_on}
 
 unfoldable pub goes : Subject → Going

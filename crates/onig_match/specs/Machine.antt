@@ -19,7 +19,6 @@ use Rattle.onig_match.specs.declared.entries.Resume.TheVariants.{Other, Alternat
 use Rattle.onig_match.specs.declared.entries.Entry.{Entry}
 use Rattle.onig_match.specs.declared.entries.End.{End}
 use Rattle.onig_match.specs.declared.entries.End.TheVariants as ends
-use Rattle.onig_match.specs.declared.entries.Point.{Point}
 use Rattle.onig_match.specs.declared.entries.Step.{Step}
 use Rattle.onig_match.specs.declared.entries.Step.TheVariants.{Go, Found, Failed}
 use Rattle.onig_match.specs.declared.area.Area.{Area}

@@ -16,3 +16,6 @@ pub mod work;
 
 pub use pattern_defs::{Flags, Outcome, Place};
 pub use work::{Work, attempt};
+
+#[cfg(test)]
+mod tests;

@@ -1,5 +1,5 @@
-use Rattle.std.proofs.Common.{◌≡◌, ◌∙◌, sym, ap}
-use Rattle.pattern_defs.specs.Attempt.{Captures, attempt, with_whole, outcome_of, hit_after}
+use Rattle.std.proofs.Common.{ap}
+use Rattle.pattern_defs.specs.Attempt.{Captures}
 use Rattle.onig_match.specs.Works.{Worked}
 use Rattle.onig_match.proofs.Ends.{attempt-goes, found_outcome, found_hit, failed_outcome, failed_hit, spent_outcome, spent_hit, sound_empty}
 use Rattle.onig_match.proofs.Flat.{flat_is_never_spent}

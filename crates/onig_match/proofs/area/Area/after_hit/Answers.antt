@@ -1,6 +1,3 @@
-use Rattle.std.proofs.Common.{◌≡◌, true, false, ◌∙◌, ap}
-use Rattle.onig_match.specs.declared.entries.Resume.{Resume}
-use Rattle.onig_match.specs.declared.entries.Resume.TheVariants.{AfterAhead, AfterBehind}
 use Rattle.onig_match.proofs.ReturnSteps.{hit_other, hit_alternatives, hit_ahead, hit_not_ahead, hit_behind, hit_not_behind, hit_atomic}
 use Rattle.onig_match.proofs.area.Area.after_hit.Goals as goal
 

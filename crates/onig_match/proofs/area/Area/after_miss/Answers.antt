@@ -1,4 +1,3 @@
-use Rattle.std.proofs.Common.{arith}
 use Rattle.onig_match.proofs.ReturnSteps.{sound_below, miss_other, miss_alternative, miss_alternatives, miss_ahead, miss_not_ahead, miss_arm, miss_behind, miss_not_behind, miss_atomic}
 use Rattle.onig_match.proofs.area.Area.after_miss.Goals as goal
 

@@ -1,4 +1,4 @@
-use Rattle.std.proofs.Common.{◌≡◌, ◌∙◌, sym, arith, length}
+use Rattle.std.proofs.Common.{◌∙◌, sym, arith, length}
 use Rattle.onig_match.proofs.Fronts.{Passes, passes, exhausted}
 use Rattle.onig_match.proofs.Steps.{IsRest-widen}
 use Rattle.onig_match.proofs.area.Area.front.Goals as goal

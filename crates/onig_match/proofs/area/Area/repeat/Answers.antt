@@ -1,5 +1,5 @@
-use Rattle.std.proofs.Common.{◌≡◌, false, sym, arith}
-use Rattle.std.specs.Prelude.{nat_lt, ◌&&◌, not}
+use Rattle.std.proofs.Common.{◌≡◌, false, sym}
+use Rattle.std.specs.Prelude.{nat_lt}
 use Rattle.std.proofs.lemmas.Bool.{lt-ltb, le-ltb}
 use Rattle.pattern_defs.specs.Attempt.{is_greatest}
 use Rattle.onig_match.proofs.VisitSteps.{lead_below, lead_greedy, lead_lazy}

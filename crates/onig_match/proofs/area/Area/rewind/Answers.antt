@@ -1,5 +1,4 @@
-use Rattle.std.proofs.Common.{◌≡◌, ◌∙◌, ◌∷◌, ◌<◌, length, subst, sym, ap, arith, List}
-use Rattle.std.specs.Prelude.{slice_set}
+use Rattle.std.proofs.Common.{◌≡◌, ◌∙◌, ◌∷◌, ◌<◌, length, subst, arith, List}
 use Rattle.std.proofs.lemmas.List.{length-set}
 use Rattle.onig_match.specs.declared.entries.Change.{Change}
 use Rattle.onig_match.specs.Sound.{AreChanges}

@@ -1,4 +1,4 @@
-use Rattle.std.proofs.Common.{◌≡◌, ◌+◌, ◌≤◌, length}
+use Rattle.std.proofs.Common.{◌≡◌, ◌+◌, length}
 use Rattle.onig_match.specs.Machine.{captures_at, kept}
 use Rattle.onig_match.specs.Sound.{AreChanges}
 use Rattle.onig_match.proofs.area.Area.rewind.Given as goal

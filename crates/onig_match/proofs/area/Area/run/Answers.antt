@@ -1,10 +1,7 @@
-use Rattle.std.proofs.Common.{◌≡◌, ◌∙◌, ◌∷◌, ◌+◌, ◌*◌, sym, refl, ap, arith, length}
-use Rattle.pattern_defs.specs.Attempt.{Ran, Hit, Miss, Spent, before, hit_after}
-use Rattle.onig_match.specs.Goes.{goes}
+use Rattle.std.proofs.Common.{refl, arith}
+use Rattle.pattern_defs.specs.Attempt.{Hit, Miss}
 use Rattle.onig_match.specs.declared.area.Area.{Area}
-use Rattle.onig_match.specs.Machine.{subject, end_of, means, rank}
-use Rattle.onig_match.specs.Sound.{SameRooms}
-use Rattle.onig_match.proofs.Ends.{Turns, begins, spent, after_visit, after_pop}
+use Rattle.onig_match.proofs.Ends.{begins, spent, after_visit, after_pop}
 use Rattle.onig_match.proofs.area.Area.run.Goals as goal
 
 pub loop-step-init : goal.loop-step-init

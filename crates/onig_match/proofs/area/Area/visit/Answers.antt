@@ -1,4 +1,4 @@
-use Rattle.std.proofs.Common.{◌≡◌, ◌∙◌, ◌∷◌, length, sym}
+use Rattle.std.proofs.Common.{◌≡◌, ◌∙◌, length, sym}
 use Rattle.std.specs.Prelude.{Some, slice_get}
 use Rattle.pattern_defs.specs.Patterns.{nodes_of}
 use Rattle.pattern_defs.specs.Attempt.{Node, Close, Again}

@@ -1,4 +1,4 @@
-use Rattle.std.proofs.Common.{◌≡◌, ◌+◌, ◌<◌, ◌≤◌, ◌^◌, length, replicate, None, vec_capacity}
+use Rattle.std.proofs.Common.{◌≡◌, ◌+◌, ◌≤◌, replicate, None, vec_capacity}
 use Rattle.onig_match.proofs.captures.Captures.reset.Given as goal
 
 abbrev pub invariant-loop-n : goal.invariant-loop-n

@@ -1,4 +1,4 @@
-use Rattle.std.proofs.Common.{reverse, take, refl}
+use Rattle.std.proofs.Common.{refl}
 use Rattle.onig_match.proofs.PileLemmas.{reverse-take}
 use Rattle.onig_match.proofs.pile.Pile.cut.Goals as goal
 
