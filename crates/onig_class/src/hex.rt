@@ -53,7 +53,8 @@ fn hex_digits(rest: &[char], most: usize) -> (usize, u32)
 /// The character with a code, for an escape at `at` and up to `next`.
 fn scalar(code: u32, at: usize, next: usize) -> Result<(Escape, usize), PatternRefusal>
     requires { at ≤ 65_536 }
-    ensures value { (text rest : List ℕ) → drop next text ≡ rest → Gives IsEscape text result (scalar_or_fault at code next rest) }
+    ensures value { (text rest : List ℕ) → drop next text ≡ rest
+        → Gives IsEscape text result (scalar_or_fault at code next rest) }
     ensures place { IfOk result (λ found. found.1 ≡ next) }
 {
     match char::from_u32(code) {

@@ -127,7 +127,8 @@ fn escaped_char(
 ) -> Result<Option<(char, usize)>, PatternRefusal>
     requires there { at < length text.now }
     requires short { length text.now ≤ 65_536 }
-    ensures value { IfOk result (λ single. IsSingle text.now single (char_of (behind_class_backslash at (drop (at + 1) text.now)))) }
+    ensures value { IfOk result (λ single. IsSingle text.now single
+        (char_of (behind_class_backslash at (drop (at + 1) text.now)))) }
     ensures place { IfOk result (λ single. IfSome single (λ found. (at < found.1) × (found.1 ≤ length text.now))) }
     ensures memory { IfErr result (λ e. e ≡ PatternRefusal.Memory) }
 {
@@ -215,7 +216,8 @@ fn range_or_one(
     requires before { at < next }
     requires there { next ≤ length text.now }
     requires short { length text.now ≤ 65_536 }
-    ensures value { Gives IsSetOf text.now result (range_or_one fold at first next (drop next text.now) (range_end next (drop next text.now))) }
+    ensures value { Gives IsSetOf text.now result
+        (range_or_one fold at first next (drop next text.now) (range_end next (drop next text.now))) }
     ensures place { IfOk result (λ found. (at < found.1) × (found.1 ≤ length text.now)) }
 {
     match range_end(alloc, text, next)? {

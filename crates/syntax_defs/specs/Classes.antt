@@ -114,7 +114,8 @@ range_end place (c ∷ rest) = if c == 45 then single_at (place + 1) rest else N
 
 -- a range from `first` on, or the one character, which ends at `next`
 abbrev pub range_or_one : (fold : Bool) (place first next : ℕ) → List ℕ → Option (Read ℕ) → Result (Read (ℕ → Bool)) Fault
-range_or_one fold place first next rest None = Ok (record { value = is_char_folded fold first; place = next; rest = rest })
+range_or_one fold place first next rest None =
+    Ok (record { value = is_char_folded fold first; place = next; rest = rest })
 range_or_one fold place first next rest (Some last) =
     if nat_lt last.value first then Err (Syntax place)
     else Ok (record { value = folded fold (is_from_to first last.value); place = last.place; rest = last.rest })
@@ -157,10 +158,13 @@ part_at first (c ∷ rest) =
 
 abbrev pub by_part : (go : Sides → SetReader) (nested : SetReader) (fold : Bool) → Sides → (place : ℕ) → List ℕ → ClassPart → Result (Read (ℕ → Bool)) Fault
 by_part go nested fold sides place rest parts.End = Err (Syntax place)
-by_part go nested fold sides place rest parts.Close = Ok (record { value = together sides; place = place + 1; rest = drop 1 rest })
+by_part go nested fold sides place rest parts.Close =
+    Ok (record { value = together sides; place = place + 1; rest = drop 1 rest })
 by_part go nested fold sides place rest parts.And = go (next_side sides) (place + 2) (drop 2 rest)
-by_part go nested fold sides place rest parts.Class = nested place rest >>= λ x. go (with_member sides x.value) x.place x.rest
-by_part go nested fold sides place rest parts.Member = member_at fold place rest >>= λ x. go (with_member sides x.value) x.place x.rest
+by_part go nested fold sides place rest parts.Class =
+    nested place rest >>= λ x. go (with_member sides x.value) x.place x.rest
+by_part go nested fold sides place rest parts.Member =
+    member_at fold place rest >>= λ x. go (with_member sides x.value) x.place x.rest
 
 -- the members of a class up to its `]`, at most so many
 unfoldable pub members_at : (nested : SetReader) (fold first : Bool) (most : ℕ) → Sides → SetReader
