@@ -6,7 +6,7 @@ use Rattle.std.proofs.lemmas.List.{drop_all, take_all, length-drop}
 pub drop-min : (n m : ℕ) (xs : List ℕ) → m ≡ min n (length xs) → drop m xs ≡ drop n xs
 drop-min n m xs e =
     elim (cases_lt n (length xs)) [
-      inl h ↦ let same : m ≡ n = omega arith in ap (λ k. drop k xs) same
+      | inl h ↦ let same : m ≡ n = omega arith in ap (λ k. drop k xs) same
       | inr h ↦ drop_all m xs (omega arith) ∙ sym (drop_all n xs h)
     ]
 

@@ -134,12 +134,7 @@ fn closed_word(
 }
 
 /// The place of the name that begins at `from`, up to the character that closes it.
-fn name_at(
-    item: Extent,
-    close: char,
-    from: usize,
-    cs: &[char],
-) -> Result<Span, PatternRefusal>
+fn name_at(item: Extent, close: char, from: usize, cs: &[char]) -> Result<Span, PatternRefusal>
     requires from { from ≤ 100_000 }
     requires short { length cs.now ≤ 65_536 }
     ensures place { Answers (λ x. x) result (word_at is_name close item.begin item.end from cs.now) }
@@ -244,11 +239,7 @@ fn minus_head(
 }
 
 /// The head of a form that changes options, what stands behind its `(?` given.
-fn option_head(
-    item: Extent,
-    options: Options,
-    cs: &[char],
-) -> Result<(Head, usize), PatternRefusal>
+fn option_head(item: Extent, options: Options, cs: &[char]) -> Result<(Head, usize), PatternRefusal>
     requires begin { item.begin ≤ 65_536 }
     requires short { length cs.now ≤ 65_536 }
     ensures { Answers (λ x. x) result (option_head options item.begin item.end cs.now) }
@@ -262,11 +253,7 @@ fn option_head(
     option_end(item, changed, !on.is_empty(), at, rest)
 }
 
-fn named_head(
-    item: Extent,
-    close: char,
-    cs: &[char],
-) -> Result<(Head, usize), PatternRefusal>
+fn named_head(item: Extent, close: char, cs: &[char]) -> Result<(Head, usize), PatternRefusal>
     requires begin { item.begin ≤ 65_536 }
     requires short { length cs.now ≤ 65_536 }
     ensures { Answers (λ x. x) result (named_head close item.begin item.end (item.begin + 3) cs.now) }

@@ -10,7 +10,11 @@ use syntax_defs::Item;
 fn capped(n: u64) -> Option<u32>
     ensures { result ≡ capped n }
 {
-    if n <= 16_777_216 { Some(n as u32) } else { None }
+    if n <= 16_777_216 {
+        Some(n as u32)
+    } else {
+        None
+    }
 }
 
 fn plus(m: Option<u32>, n: Option<u32>) -> Option<u32>
@@ -95,7 +99,10 @@ fn item_length(lengths: &[Option<u32>], item: &Item) -> Option<u32>
         Item::Choice(ids) => choice_length(lengths, ids.as_slice()),
         Item::Group { body, .. } => length_of(lengths, *body),
         Item::Repeat {
-            body, least, most, ..
+            body,
+            least,
+            most,
+            ..
         } => repeat_length(length_of(lengths, *body), *least, *most),
         Item::Atomic(body) => length_of(lengths, *body),
         Item::Back { .. } => None,
@@ -114,10 +121,7 @@ fn items_length(lengths: &[Option<u32>], items: &[Item]) -> Option<u32>
 }
 
 /// The length of each list.
-pub(crate) fn lengths_of(
-    alloc: Global,
-    lists: &[Vec<Item>],
-) -> Result<Vec<Option<u32>>, AllocError>
+pub(crate) fn lengths_of(alloc: Global, lists: &[Vec<Item>]) -> Result<Vec<Option<u32>>, AllocError>
     ensures { IfOk result (λ lengths. lengths.items ≡ lengths_of (map (λ items. items.items) lists.now)) }
 {
     let mut lengths = Vec::new(alloc);

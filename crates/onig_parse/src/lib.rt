@@ -22,5 +22,5 @@ mod steps;
 pub use char_sets::{CharRange, CharSet};
 pub use draft::PatternDraft;
 pub use pattern::Pattern;
-pub use syntax_defs::PatternRefusal;
 pub use pattern_defs::{Anchor, Arm, Arms, ListId, ListIds, PatNode};
+pub use syntax_defs::PatternRefusal;

@@ -4,12 +4,12 @@ ghost use Rattle.syntax_defs.specs.Lengths.{lengths_of};
 ghost use Rattle.syntax_defs.specs.PatternMeaning.{FitsItem, FitsItems, FitsLists, IsSetRead, StandsFor, arm_of};
 ghost use Rattle.syntax_defs.specs.Singles.{single_at};
 
-use char_sets::CharSet;
 use crate::draft::PatternDraft;
 use crate::lengths::length_of;
 use crate::parsed::ParsedText;
 use crate::pattern::Pattern;
 use crate::single::read_single;
+use char_sets::CharSet;
 use pattern_defs::{Arm, Arms, ListId, ListIds, PatNode};
 use std::alloc::{AllocError, Global};
 use syntax_defs::{Item, Options};
@@ -26,11 +26,7 @@ fn earlier_list(count: usize, id: ListId) -> Result<ListId, AllocError>
     }
 }
 
-fn earlier_lists(
-    alloc: Global,
-    count: usize,
-    ids: &[ListId],
-) -> Result<ListIds, AllocError>
+fn earlier_lists(alloc: Global, count: usize, ids: &[ListId]) -> Result<ListIds, AllocError>
     ensures same { IfOk result (λ found. found ≡ ids.now) }
     ensures there { IfOk result (λ found. AllIds count found) }
 {
@@ -148,11 +144,7 @@ fn lower_item(
             alloc, text, *at, *options, *depth,
         )?)),
         Item::At(anchor) => Ok(PatNode::At(*anchor)),
-        Item::Choice(ids) => Ok(PatNode::Choice(earlier_lists(
-            alloc,
-            count,
-            ids.as_slice(),
-        )?)),
+        Item::Choice(ids) => Ok(PatNode::Choice(earlier_lists(alloc, count, ids.as_slice())?)),
         Item::Group { number, body } => Ok(PatNode::Group {
             number: there(parsed.groups(), *number)?,
             body: earlier_list(count, *body)?,

@@ -132,7 +132,9 @@ impl Reader {
     pub(crate) fn has_name(&self, name: Span) -> bool
         ensures { result ≡ list_any (is_named self.now.text name) self.now.names }
     {
-        self.names.iter().any(|known| is_named(self.text(), name, known))
+        self.names
+            .iter()
+            .any(|known| is_named(self.text(), name, known))
     }
 }
 
