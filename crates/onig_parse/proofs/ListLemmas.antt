@@ -1,12 +1,12 @@
 -- Lists of nodes that name earlier lists and groups up to a number.
-use Rattle.std.proofs.Common.{◌≡◌, ℕ, zero, suc, ◌+◌, ◌<◌, ◌≤◌, List, [], ◌∷◌, ◌++◌, length, map, get_or, take, ap, sym, ◌∙◌, arith}
+use Rattle.std.proofs.Common.{◌≡◌, ℕ, zero, suc, ◌+◌, ◌<◌, ◌≤◌, List, [], ◌∷◌, ◌++◌, length, map, get_or, take, refl, ap, sym, ◌∙◌, arith}
 use Rattle.std.proofs.lemmas.List.{take_more, map_push}
 use Rattle.std.specs.Prelude.{slice_get, unwrap_or}
 use Rattle.pattern_defs.specs.declared.nodes.ListId.{ListId}
 use Rattle.pattern_defs.specs.declared.nodes.Arm.{Arm}
 use Rattle.pattern_defs.specs.declared.nodes.PatNode.{PatNode}
 use Rattle.pattern_defs.specs.declared.nodes.PatNode.TheVariants.{One, At, Choice, Group, Repeat, Ahead, Behind, Atomic, Back}
-use Rattle.pattern_defs.specs.Patterns.{NodeLists, AllIds, AllArms, IsNode, AreNodes, AreLists}
+use Rattle.pattern_defs.specs.Patterns.{NodeLists, AllIds, RiseFrom, AllArms, IsNode, AreNodes, AreLists}
 
 AllIds-widen : (a b : ℕ) (ids : List ListId) → a ≤ b → AllIds a ids → AllIds b ids
 AllIds-widen a b [] h all = tt
@@ -20,6 +20,19 @@ pub AllIds-push : (n : ℕ) (ids : List ListId) (id : ListId) → AllIds n ids �
 AllIds-push n [] id all h = (h, tt)
 AllIds-push n (first ∷ ids) id all h = (all.0, AllIds-push n ids id all.1 h)
 
+-- the least number that may come behind numbers that rise
+abbrev pub behind : ℕ → List ListId → ℕ
+behind low [] = low
+behind low (id ∷ ids) = behind (id.0 + 1) ids
+
+pub RiseFrom-push : (low : ℕ) (ids : List ListId) (id : ListId) → RiseFrom low ids → behind low ids ≤ id.0 → RiseFrom low (ids ++ id ∷ [])
+RiseFrom-push low [] id rise h = (h, tt)
+RiseFrom-push low (first ∷ ids) id rise h = (rise.0, RiseFrom-push (first.0 + 1) ids id rise.1 h)
+
+pub behind-push : (low : ℕ) (ids : List ListId) (id : ListId) → behind low (ids ++ id ∷ []) ≡ id.0 + 1
+behind-push low [] id = refl
+behind-push low (first ∷ ids) id = behind-push (first.0 + 1) ids id
+
 pub AllArms-push : (n : ℕ) (arms : List Arm) (arm : Arm) → AllArms n arms → arm.body.0 < n → AllArms n (arms ++ arm ∷ [])
 AllArms-push n [] arm all h = (h, tt)
 AllArms-push n (first ∷ arms) arm all h = (all.0, AllArms-push n arms arm all.1 h)
@@ -28,7 +41,7 @@ AllArms-push n (first ∷ arms) arm all h = (all.0, AllArms-push n arms arm all.
 IsNode-widen : (a b g k : ℕ) (node : PatNode) → a ≤ b → g ≤ k → IsNode a g node → IsNode b k node
 IsNode-widen a b g k (One set) h more is = tt
 IsNode-widen a b g k (At anchor) h more is = tt
-IsNode-widen a b g k (Choice ids) h more is = AllIds-widen a b ids h is
+IsNode-widen a b g k (Choice ids) h more is = (AllIds-widen a b ids h is.0, is.1)
 IsNode-widen a b g k (Group number body) h more is =
     let low : number ≤ g = is.1 in let lt : body.0 < a = is.2 in (is.0, omega arith, omega arith)
 IsNode-widen a b g k (Repeat body least most greedy) h more is = (is.0, let lt : body.0 < a = is.1 in omega arith)

@@ -1,5 +1,5 @@
 ghost use Rattle.std.specs.Prelude.{◌≡◌, ℕ, ◌<◌, ◌≤◌, drop, map, length, IfOk};
-ghost use Rattle.pattern_defs.specs.Patterns.{AllIds, AllArms, AreBounds, AreNodes, IsNode};
+ghost use Rattle.pattern_defs.specs.Patterns.{AllIds, RiseFrom, AllArms, AreBounds, AreNodes, IsNode};
 ghost use Rattle.syntax_defs.specs.Lengths.{lengths_of};
 ghost use Rattle.syntax_defs.specs.PatternMeaning.{FitsItem, FitsItems, FitsLists, IsSetRead, StandsFor, arm_of};
 ghost use Rattle.syntax_defs.specs.Singles.{single_at};
@@ -29,12 +29,27 @@ fn earlier_list(count: usize, id: ListId) -> Result<ListId, AllocError>
 fn earlier_lists(alloc: Global, count: usize, ids: &[ListId]) -> Result<ListIds, AllocError>
     ensures same { IfOk result (λ found. found ≡ ids.now) }
     ensures there { IfOk result (λ found. AllIds count found) }
+    ensures rise { IfOk result (λ found. RiseFrom 0 found) }
 {
     let mut found = ListIds::new(alloc);
+    let mut low = 0u64;
     for id in ids {
-        found.push(earlier_list(count, *id)?)?;
+        found.push(earlier_list(count, not_below(low, *id)?)?)?;
+        low = u64::from(id.0) + 1;
     }
     Ok(found)
+}
+
+/// A number that isn't below another, as those of alternatives rise.
+fn not_below(low: u64, id: ListId) -> Result<ListId, AllocError>
+    ensures same { IfOk result (λ found. found ≡ id) }
+    ensures rise { IfOk result (λ found. low ≤ found.0) }
+{
+    if low <= u64::from(id.0) {
+        Ok(id)
+    } else {
+        Err(AllocError)
+    }
 }
 
 fn arms_of(

@@ -46,6 +46,7 @@ impl Pattern {
     pub fn top(&self) -> ListId
         ensures top { result ≡ self.now.top }
         ensures is_there { result.0 < length self.now.lists }
+        ensures names { AreLists 0 self.now.groups self.now.lists }
     {
         self.top
     }
