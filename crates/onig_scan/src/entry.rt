@@ -39,6 +39,13 @@ impl Entry {
         Ok(Entry { pattern, front })
     }
 
+    /// How many groups the pattern has.
+    pub(crate) fn groups(&self) -> u32
+        ensures { result ≡ self.now.groups }
+    {
+        self.pattern.groups()
+    }
+
     /// An attempt of the pattern, which is spared where it would miss for want of a character.
     pub(crate) fn attempt(&self, work: &mut Work, text: &[char], at: u32, flags: Flags) -> Outcome
         requires short { length text.now < 2 ^ 31 }

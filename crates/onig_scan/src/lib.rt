@@ -7,3 +7,6 @@ pub mod scanner;
 
 pub use pattern_defs::{Flags, Found, Outcome, Place};
 pub use scanner::Scanner;
+
+#[cfg(test)]
+mod tests;

@@ -1,4 +1,4 @@
-ghost use Rattle.std.specs.Prelude.{◌≡◌, ◌<◌, ◌≤◌, ◌^◌, All, length, map, IfOk};
+ghost use Rattle.std.specs.Prelude.{◌≡◌, ℕ, ◌<◌, ◌≤◌, ◌^◌, All, length, map, IfOk};
 ghost use Rattle.std.specs.Rc.{rc_value};
 ghost use Rattle.pattern_defs.specs.FirstMatch.{pairs_at, first_of, found_at, captures_at, first_match, captures_after};
 
@@ -25,6 +25,18 @@ impl Model for Scanner {
     ghost view = { λ s. s.entries.items };
 
     ghost invariant = { λ s. length s.entries.items < 2 ^ 32 };
+}
+
+/// The most groups that one of the patterns has.
+fn most_groups(entries: &[Entry]) -> u32
+    ensures fits { All (λ tree. tree.groups ≤ result) entries.now }
+    ensures least { (room : ℕ) → All (λ tree. tree.groups ≤ room) entries.now → result ≤ room }
+{
+    let mut most = 0;
+    for entry in entries {
+        most = entry.groups().max(most);
+    }
+    most
 }
 
 /// The first of the patterns that matches at this place.
@@ -70,6 +82,14 @@ impl Scanner {
             entries.push(Entry::of(alloc, pattern)?)?;
         }
         Ok(Scanner { entries })
+    }
+
+    /// The most groups that one of the patterns has.
+    pub fn groups(&self) -> u32
+        ensures fits { All (λ tree. tree.groups ≤ result) self.now }
+        ensures least { (room : ℕ) → All (λ tree. tree.groups ≤ room) self.now → result ≤ room }
+    {
+        most_groups(&self.entries)
     }
 
     /// The first match from a place on: places are tried in order, and at each the patterns in order. What the
