@@ -181,4 +181,3 @@ a_word_edge_in_a_group = refl
 pub anchors_are_one_node_each : read_pattern (codes "^\\z$") ≡ parsed ((At anchors.LineStart ∷ At anchors.End ∷ At anchors.LineEnd ∷ []) ∷ []) 0 0
 unfolding Rattle.syntax_defs.specs.PatternSyntax.body_at Rattle.syntax_defs.specs.PatternSyntax.steps
 anchors_are_one_node_each = refl
-

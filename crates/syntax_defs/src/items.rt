@@ -101,10 +101,7 @@ pub enum Sight {
     Repeat(Bounds),
     Open,
     /// An anchor of so many characters.
-    Edge {
-        anchor: Anchor,
-        length: usize,
-    },
+    Edge { anchor: Anchor, length: usize },
     /// A backslash and a number.
     Number,
     /// A backslash and `k`.
