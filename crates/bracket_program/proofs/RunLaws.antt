@@ -2,12 +2,12 @@
 use Rattle.std.proofs.Common.{◌≡◌, ◌⊎◌, inl, inr, ℕ, ◌≤◌, ◌<◌, ◌↔◌, List, [], ◌++◌, length, refl, sym, ap, subst, ◌∙◌, arith, append-nil, length-append, true, false}
 use Rattle.std.specs.Prelude.{Option, Some, None, IfSome}
 use Rattle.text_defs.specs.Text.{text_of, whole_lines}
-use Rattle.piece_io.specs.Told.{Told, Holds, appended, risen}
+use Rattle.piece_io.specs.Told.{Told, Untold, Missing, Holds, appended, risen}
 use Rattle.answer_defs.specs.Answers.{Settings, usual}
 use Rattle.session_defs.specs.Output.{is_accepted, output_of, written_for, script_lines, most_script_bytes}
 use Rattle.session_defs.specs.Words.{Request}
 use Rattle.bracket_program.specs.Ends.{Outside, WritesFront, IsDone, IsCut, IsFront, IsEnd}
-use Rattle.bracket_program.specs.Run.{Opens, Refuses, SameCounts, Answered, IsRun, AnswersAll, AnswersTaken, WritesSome, Stands, AllStand}
+use Rattle.bracket_program.specs.Run.{Opens, Refuses, CannotOpen, SameCounts, Answered, IsRun, AnswersAll, AnswersTaken, WritesSome, Stands, AllStand}
 use Rattle.bracket_program.specs.declared.status.Status.{Status}
 use Rattle.bracket_program.specs.declared.status.Status.TheVariants as status
 use Rattle.bracket_program.proofs.Replying.{nothing_written}
@@ -74,6 +74,54 @@ run-front contents faults faults' before after (Some r) s run (inl e) =
     let a = (subst (IsRun contents faults faults' before after (Some r)) e run).1 in writes_some contents before after r a.0 a.1 a.2.0
 run-front contents faults faults' before after (Some r) s run (inr e) =
     memory_front contents before after r (subst (IsRun contents faults faults' before after (Some r)) e run).1
+
+-- ---- what stays
+
+pub run-files : (contents : List ℕ → Told) (faults faults' : List ℕ → ℕ) (before after : Outside) (w : Option Request) (s : Status)
+    → IsRun contents faults faults' before after w s → ¬ (s ≡ status.ReadFault) → SameCounts faults faults'
+run-files contents faults faults' before after None status.Words run n = run.0
+run-files contents faults faults' before after None status.Done run n = absurd run
+run-files contents faults faults' before after None status.TextFile run n = absurd run
+run-files contents faults faults' before after None status.ReadFault run n = absurd run
+run-files contents faults faults' before after None status.WriteFault run n = absurd run
+run-files contents faults faults' before after None status.ScriptFull run n = absurd run
+run-files contents faults faults' before after None status.Memory run n = absurd run
+run-files contents faults faults' before after (Some r) status.Words run n = absurd run
+run-files contents faults faults' before after (Some r) status.TextFile run n = run.1
+run-files contents faults faults' before after (Some r) status.Done run n = run.0
+run-files contents faults faults' before after (Some r) status.ReadFault run n = absurd (n refl)
+run-files contents faults faults' before after (Some r) status.WriteFault run n = run.0
+run-files contents faults faults' before after (Some r) status.ScriptFull run n = run.0
+run-files contents faults faults' before after (Some r) status.Memory run n = run.0
+
+cannot_open : (told : Told) (text : List ℕ) → CannotOpen told → Opens told text → ⊥
+cannot_open Untold text n o = absurd n
+cannot_open Missing text n o = absurd o
+cannot_open (Holds file) text n o = let is_open = o.0 in cc
+
+same_outside : (before after : Outside) → after ≡ before → (after.left ≡ before.left) × (after.held ≡ before.held)
+same_outside before after e = (ap (λ (o : Outside). o.left) e, ap (λ (o : Outside). o.held) e)
+
+unopened : (contents : List ℕ → Told) (faults faults' : List ℕ → ℕ) (before after : Outside) (r : Request) (s : Status)
+    → IsRun contents faults faults' before after (Some r) s → CannotOpen (contents r.text) → (after.left ≡ before.left) × (after.held ≡ before.held)
+unopened contents faults faults' before after r status.Words run n = absurd run
+unopened contents faults faults' before after r status.TextFile run n = same_outside before after run.2
+unopened contents faults faults' before after r status.Done run n = absurd (cannot_open (contents r.text) run.1.0 n run.1.1)
+unopened contents faults faults' before after r status.WriteFault run n = absurd (cannot_open (contents r.text) run.1.0 n run.1.1)
+unopened contents faults faults' before after r status.ScriptFull run n = absurd (cannot_open (contents r.text) run.1.0 n run.1.1)
+unopened contents faults faults' before after r status.ReadFault (inl run) n = same_outside before after run.1
+unopened contents faults faults' before after r status.ReadFault (inr run) n = absurd (cannot_open (contents r.text) run.1.0 n run.1.1)
+unopened contents faults faults' before after r status.Memory run n = of_memory run.1
+  where
+    of_memory : (after ≡ before) ⊎ Answered r contents (λ text. IsEnd before after (usual r.limits) text status.Memory) → (after.left ≡ before.left) × (after.held ≡ before.held)
+    of_memory (inl e) = same_outside before after e
+    of_memory (inr a) = absurd (cannot_open (contents r.text) a.0 n a.1)
+
+pub run-unopened : (contents : List ℕ → Told) (faults faults' : List ℕ → ℕ) (before after : Outside) (w : Option Request) (s : Status)
+    → IsRun contents faults faults' before after w s
+    → IfSome w (λ r. CannotOpen (contents r.text) → (after.left ≡ before.left) × (after.held ≡ before.held))
+run-unopened contents faults faults' before after None s run = tt
+run-unopened contents faults faults' before after (Some r) s run = unopened contents faults faults' before after r s run
 
 -- ---- when each status has to come
 

@@ -21,6 +21,12 @@ Refuses Untold = Unit {0}
 Refuses Missing = ⊥
 Refuses (Holds file) = is_accepted file ≡ false
 
+-- the file is told to be missing, or not to be accepted
+abbrev pub CannotOpen : Told → Type 0
+CannotOpen Untold = ⊥
+CannotOpen Missing = Unit {0}
+CannotOpen (Holds file) = is_accepted file ≡ false
+
 -- no read of a file failed
 abbrev pub SameCounts : (List ℕ → ℕ) → (List ℕ → ℕ) → Type 0
 SameCounts before after = (q : List ℕ) → after q ≡ before q

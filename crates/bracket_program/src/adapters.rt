@@ -1,5 +1,6 @@
-ghost use Rattle.std.specs.Prelude.{◌≡◌, ℕ, ◌<◌, ◌≤◌, ◌-◌, ◌^◌, List, Option, None, length, min};
-ghost use Rattle.piece_io.specs.Told.{Told, Untold};
+ghost use Rattle.std.specs.Prelude.{◌≡◌, ℕ, ◌<◌, ◌≤◌, ◌-◌, ◌^◌, List, Option, None, length, min, take, IfOk, OnOk, OnErr};
+ghost use Rattle.std.specs.Io.KnownBytes.{ReadConsumes, WriteAppends};
+ghost use Rattle.piece_io.specs.Told.{Told, Untold, GivesFront, appended, risen};
 
 use piece_io::{Failed, Files, Sink, Source};
 use std::fs;
@@ -57,7 +58,16 @@ impl<R: Read + Drop> Source for InFeed<R> {
 
     ghost faults = { λ s. s.faults };
 
-    fn read(&mut self, into: &mut [u8]) -> Result<usize, Failed> {
+    fn read(&mut self, into: &mut [u8]) -> Result<usize, Failed>
+        requires { 0 < length into.old }
+        // What a reader tells of its bytes: they are handed on, and its end alone is the end.
+        ensures moves { ReadConsumes (R.remaining self.old.reader) (R.remaining self.new.reader) result into.new }
+        ensures within { IfOk result (λ n. n ≤ length into.old) }
+        ensures gives { IfOk result (λ n. GivesFront None None n into.new) }
+        ensures counts { OnOk result (self.new.faults ≡ self.old.faults) }
+        ensures rises { OnErr result (risen self.old.faults ≤ self.new.faults) }
+        ensures never_falls { self.old.faults ≤ self.new.faults }
+    {
         if let Ok(come) = self.reader.read(into) {
             return Ok(come);
         }
@@ -86,7 +96,17 @@ impl<W: Write + Drop> Sink for OutFeed<W> {
 
     ghost faults = { λ s. s.faults };
 
-    fn write(&mut self, piece: &[u8]) -> Result<usize, Failed> {
+    fn write(&mut self, piece: &[u8]) -> Result<usize, Failed>
+        requires { 0 < length piece.now }
+        // What a writer tells of its bytes: those that are said to be taken were added, and no others.
+        ensures moves { WriteAppends (W.contents self.old.writer) (W.contents self.new.writer) result piece.now }
+        ensures some { IfOk result (λ n. 0 < n) }
+        ensures within { IfOk result (λ n. n ≤ length piece.now) }
+        ensures takes { IfOk result (λ n. None ≡ appended None (take n piece.now)) }
+        ensures counts { OnOk result (self.new.faults ≡ self.old.faults) }
+        ensures rises { OnErr result (risen self.old.faults ≤ self.new.faults) }
+        ensures never_falls { self.old.faults ≤ self.new.faults }
+    {
         if let Ok(taken) = self.writer.write(piece) {
             if taken > 0 {
                 return Ok(taken);

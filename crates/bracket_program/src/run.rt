@@ -3,7 +3,7 @@ ghost use Rattle.piece_io.specs.Told.{Holds, risen};
 ghost use Rattle.session_defs.specs.Words.{request_of};
 ghost use Rattle.session_defs.specs.Output.{is_accepted, most_script_bytes};
 ghost use Rattle.bracket_program.specs.Ends.{outside};
-ghost use Rattle.bracket_program.specs.Run.{IsRun, AllStand, AnswersAll, AnswersTaken, Refuses, Stands, WritesSome};
+ghost use Rattle.bracket_program.specs.Run.{CannotOpen, IsRun, AllStand, AnswersAll, AnswersTaken, Refuses, SameCounts, Stands, WritesSome};
 
 use crate::open::open_document;
 use crate::serve::serve;
@@ -72,6 +72,12 @@ pub fn run<F: Files, S: Source, K: Sink, L: Ledger, M: Ledger>(
     ensures file_rise { IfSome (request_of (map string_bytes words.now)) (λ r. F.faults files.old r.text < F.faults files.new r.text → result ≡ Status.ReadFault) }
     ensures script_rise { S.faults script.old < S.faults script.new → result ≡ Status.ReadFault }
     ensures sink_rise { K.faults sink.old < K.faults sink.new → result ≡ Status.WriteFault }
+
+    // But at a read fault no read of any file failed; and where the text file cannot be opened, no script is read
+    // and nothing is written.
+    ensures files_stand { ¬ (result ≡ Status.ReadFault) → SameCounts (F.faults files.old) (F.faults files.new) }
+    ensures unopened { IfSome (request_of (map string_bytes words.now)) (λ r. CannotOpen (F.contents files.old r.text)
+        → (S.left script.new ≡ S.left script.old) × (K.held sink.new ≡ K.held sink.old)) }
 
     ensures contents { (q : List ℕ) → F.contents files.new q ≡ F.contents files.old q }
     ensures steps { steps.new ≡ steps.old }

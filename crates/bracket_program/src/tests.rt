@@ -1,8 +1,9 @@
 ghost use Rattle.std.specs.Prelude.{◌≡◌, ◌<◌, None};
 
+use crate::adapters::FileStore;
 use crate::run::run;
 use crate::status::Status;
-use piece_io::{Failed, MemFiles, MemSink, MemSource, Sink, Source};
+use piece_io::{Failed, Files, MemFiles, MemSink, MemSource, Sink, Source};
 use std::alloc::{AllocError, Global};
 use std::marker::Brand;
 use std::process::Abort;
@@ -386,4 +387,12 @@ fn endless_script_is_full(rt: HostRuntime) -> Result<(), Fail> {
     assert_eq!(rt; status, Status::ScriptFull);
     assert_eq!(rt; sink.bytes(), b"{\"opened\":1,\"unread\":0}\n".as_slice());
     Ok(())
+}
+
+/// What files of the system hold no clause can say, and so not that a failed read isn't taken for the end.
+#[test]
+fn a_file_that_is_not_there_fails(rt: HostRuntime) {
+    let mut files = FileStore::new(&rt);
+    let read = files.read_at("no file has this name", 0, &mut [0; 1]);
+    assert_eq!(rt; read, Err(Failed));
 }
