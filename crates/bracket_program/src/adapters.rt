@@ -1,6 +1,6 @@
 ghost use Rattle.std.specs.Prelude.{◌≡◌, ℕ, ◌<◌, ◌≤◌, ◌-◌, ◌^◌, List, Option, None, length, min, take, IfOk, OnOk, OnErr};
 ghost use Rattle.std.specs.Io.KnownBytes.{ReadConsumes, WriteAppends};
-ghost use Rattle.piece_io.specs.Told.{Told, Untold, GivesFront, appended, risen};
+ghost use Rattle.piece_io.specs.Told.{Told, Untold, GivesFrom, GivesFront, appended, risen};
 
 use piece_io::{Failed, Files, Sink, Source};
 use std::fs;
@@ -27,7 +27,15 @@ impl Files for FileStore<'_> {
 
     ghost faults = { λ s _. s.faults };
 
-    fn read_at(&mut self, name: &str, from: u64, into: &mut [u8]) -> Result<usize, Failed> {
+    fn read_at(&mut self, name: &str, from: u64, into: &mut [u8]) -> Result<usize, Failed>
+        requires { 0 < length into.old }
+        ensures within { IfOk result (λ n. n ≤ length into.old) }
+        ensures gives { IfOk result (λ n. GivesFrom Untold from n into.new) }
+        ensures counts { OnOk result ((q : List ℕ) → self.new.faults ≡ self.old.faults) }
+        ensures counted { OnErr result (self.new.faults ≡ risen self.old.faults) }
+        ensures rises { OnErr result (risen self.old.faults ≤ self.new.faults) }
+        ensures never_falls { (q : List ℕ) → self.old.faults ≤ self.new.faults }
+    {
         if let Ok(file) = fs::open(self.rt, name) {
             if let Ok(come) = file.read_at(into, from) {
                 return Ok(come);
@@ -65,6 +73,7 @@ impl<R: Read + Drop> Source for InFeed<R> {
         ensures within { IfOk result (λ n. n ≤ length into.old) }
         ensures gives { IfOk result (λ n. GivesFront None None n into.new) }
         ensures counts { OnOk result (self.new.faults ≡ self.old.faults) }
+        ensures counted { OnErr result (self.new.faults ≡ risen self.old.faults) }
         ensures rises { OnErr result (risen self.old.faults ≤ self.new.faults) }
         ensures never_falls { self.old.faults ≤ self.new.faults }
     {
@@ -104,6 +113,7 @@ impl<W: Write + Drop> Sink for OutFeed<W> {
         ensures within { IfOk result (λ n. n ≤ length piece.now) }
         ensures takes { IfOk result (λ n. None ≡ appended None (take n piece.now)) }
         ensures counts { OnOk result (self.new.faults ≡ self.old.faults) }
+        ensures counted { OnErr result (self.new.faults ≡ risen self.old.faults) }
         ensures rises { OnErr result (risen self.old.faults ≤ self.new.faults) }
         ensures never_falls { self.old.faults ≤ self.new.faults }
     {
