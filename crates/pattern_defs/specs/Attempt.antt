@@ -1,6 +1,7 @@
 -- An attempt: whether a pattern matches at a place, by what is still to match there. The order in which ways are
--- tried is that of Oniguruma's RE; the budget of visits, and that an iteration that takes nothing ends its
--- repeat, are this project's own.
+-- tried is that of Oniguruma's RE; where the end anchors hold is vscode-textmate's. The budget of visits, that an
+-- iteration that takes nothing ends its repeat, that anchors and lookaround may be repeated, and what a back
+-- reference takes in its own group are this project's own.
 use Rattle.std.specs.Prelude.{ℕ, zero, suc, ◌+◌, ◌-◌, ◌==◌, nat_lt, nat_le, nat_eq, List, [], ◌∷◌, ◌++◌, length, map, drop, replicate, Bool, true, false, ◌&&◌, ◌||◌, not, Option, Some, None, option_and_then, slice_get, slice_set, slice_range}
 use Rattle.std.specs.Char.{to_ascii_lowercase}
 use Rattle.std.specs.List.{starts_with}

@@ -24,7 +24,7 @@ abbrev pub AllIds : ℕ → List ListId → Type 0
 AllIds n [] = Unit {0}
 AllIds n (id ∷ ids) = (id.0 < n) × AllIds n ids
 
--- the numbers rise, so that no list stands in two places
+-- the numbers rise, so that no list stands twice in one choice
 abbrev pub RiseFrom : ℕ → List ListId → Type 0
 RiseFrom low [] = Unit {0}
 RiseFrom low (id ∷ ids) = (low ≤ id.0) × RiseFrom (id.0 + 1) ids

@@ -22,7 +22,7 @@ word cs = take (word_count cs) cs
 abbrev pub behind_word : List ℕ → List ℕ
 behind_word cs = drop (word_count cs) cs
 
--- what begins as a name does: an ASCII letter or `_`, then word characters
+-- what begins as a name does: an ASCII letter or `_`, then word characters. An empty word is refused at its end.
 abbrev pub is_name : List ℕ → Bool
 is_name [] = true
 is_name (c ∷ cs) = is_ascii_alphabetic c || (c == 95)
@@ -71,7 +71,7 @@ with_options options on off = record {
   spaced = switched 120 on off options.spaced;
 }
 
--- what stands behind the letters: a `:` or a `)`, which wants some change, at a place
+-- what stands behind the letters, at a place: a `:`, or a `)` that letters or a minus stand before
 abbrev pub option_end : Options → Bool → (begin end place : ℕ) → List ℕ → Result (Head × ℕ) Fault
 option_end options changes begin end place [] = Err (Syntax end)
 option_end options changes begin end place (c ∷ cs) =

@@ -289,7 +289,7 @@ unfoldable pub steps : Going → ℕ → ℕ → Options → Body → Seen → R
 steps go zero levels options b s = Err (Syntax s.place)
 steps go (suc count) levels options b s = step go levels options b s >>= λ r. after_step (steps go count levels options) r.more r.body r.seen
 
--- the body of a form, where so many forms may open, one in another
+-- The body of a form or of the whole, which takes one level; in it forms may open in what is left, one in another.
 unfoldable pub body_at : ℕ → Going
 body_at zero options s = Err (TooDeep 101)
 body_at (suc levels) options s = steps (body_at levels) (length s.text + 1) levels options empty_body s
