@@ -76,3 +76,9 @@ nodes_of-read f (y ∷ xs) (suc k) x h e = nodes_of-read f xs k x (omega arith) 
 -- one element more, each seen by a function
 pub map_more : {X Y : Type 0} (f : X → Y) (xs : List X) (i : ℕ) (d : X) → i < length xs → map f (take (i + 1) xs) ≡ map f (take i xs) ++ f (get_or xs i d) ∷ []
 map_more f xs i d h = ap (map f) (take_more xs i d h) ∙ map_push f (take i xs) (get_or xs i d)
+
+-- each of the numbers is below the bound
+pub AllIds-at : (n : ℕ) (ids : List ListId) (k : ℕ) (d : ListId) → AllIds n ids → k < length ids → (get_or ids k d).0 < n
+AllIds-at n [] k d all h = absurd (omega arith)
+AllIds-at n (id ∷ ids) zero d all h = all.0
+AllIds-at n (id ∷ ids) (suc k) d all h = AllIds-at n ids k d all.1 (omega arith)

@@ -89,10 +89,12 @@ impl Pattern {
         requires { AllIds (length self.now.lists) ids.now }
         ensures { result ≡ list_all (λ id. list_all is_plain (nodes_of self.now.lists id)) ids.now }
     {
-        match ids {
-            [] => true,
-            [id, rest @ ..] => are_plain(self.list(*id)) && self.are_all_plain(rest),
+        for id in ids {
+            if !are_plain(self.list(*id)) {
+                return false;
+            }
         }
+        true
     }
 }
 
