@@ -1,5 +1,5 @@
 -- How a loop over the members of a class stands for their reading.
-use Rattle.std.proofs.Common.{◌≡◌, ℕ, zero, suc, ◌+◌, ◌-◌, ◌<◌, ◌≤◌, List, [], ◌∷◌, length, drop, Bool, true, false, refl, ap, sym, subst, ◌∙◌, arith, Result, Ok, Err, IfOk, IfErr, length-drop}
+use Rattle.std.proofs.Common.{◌≡◌, ℕ, zero, suc, ◌+◌, ◌-◌, ◌<◌, ◌≤◌, List, length, drop, Bool, true, false, refl, ap, sym, subst, ◌∙◌, arith, Result, Ok, Err, IfOk, IfErr}
 use Rattle.std.specs.Prelude.{if◌then◌else◌}
 use Rattle.std.proofs.lemmas.List.{drop-drop}
 use Rattle.char_sets.specs.Ranges.{IsSetOf}
@@ -7,7 +7,7 @@ use Rattle.char_sets.specs.declared.char_set.CharRange.{CharRange}
 use Rattle.syntax_defs.specs.declared.class_part.ClassPart.{ClassPart}
 use Rattle.syntax_defs.specs.declared.refusal.PatternRefusal.{PatternRefusal}
 use Rattle.syntax_defs.specs.declared.refusal.PatternRefusal.TheVariants as refusals
-use Rattle.syntax_defs.specs.Reading.{Fault, Syntax, LeftOut, TooDeep, TooLong, Read, ◌>>=◌, Fails, Fitting, FitsRead, Gives}
+use Rattle.syntax_defs.specs.Reading.{Fault, TooDeep, Read, ◌>>=◌, Fails, FitsRead, Gives}
 use Rattle.syntax_defs.specs.Escapes.{signed}
 use Rattle.syntax_defs.specs.Classes as defs
 use Rattle.syntax_defs.specs.Classes.{class_within, members_at, no_members, with_member, begins_with, body_at, by_part, part_at, SetReader}

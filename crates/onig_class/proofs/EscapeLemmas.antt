@@ -1,10 +1,8 @@
 -- What escapes and names are, in the cases that the code tells apart.
-use Rattle.std.proofs.Common.{◌≡◌, ℕ, zero, suc, ◌+◌, ◌<◌, ◌≤◌, List, [], ◌∷◌, length, get_or, take, drop, Bool, true, false, refl, ap, sym, subst, arith, ◌≢◌, Option, Some, None}
+use Rattle.std.proofs.Common.{◌≡◌, ℕ, ◌<◌, ◌≤◌, List, [], ◌∷◌, length, get_or, refl, arith}
 use Rattle.std.specs.Option.{option_map, option_or}
-use Rattle.std.proofs.lemmas.Grind.{common_steps}
-use Rattle.char_sets.specs.declared.named.NamedSet.{NamedSet}
 use Rattle.char_sets.specs.declared.named.NamedSet.TheVariants as sets
-use Rattle.syntax_defs.specs.Escapes.{Escape, hex_count, hex_value, scalar_or_fault, unicode_at, braced_at, by_plain_name, group_by_letter, category_by, group_by_word, named_bracket, named_property, property_by, with_sign}
+use Rattle.syntax_defs.specs.Escapes.{by_plain_name, category_by, group_by_word, named_bracket}
 
 pub two_letters : (name : List ℕ) (a b : ℕ) → 2 ≤ length name → length name < 3 → a ≡ get_or name 0 a → b ≡ get_or name 1 b → by_plain_name name ≡ option_map sets.Category (category_by a b)
 unfolding by_plain_name

@@ -1,8 +1,7 @@
 -- When what the code has read is what the definitions say.
-use Rattle.std.specs.Prelude.{◌≡◌, ℕ, Bool, List, Option, Some, None}
+use Rattle.std.specs.Prelude.{◌≡◌, ℕ, List, Option, Some, None}
 use Rattle.char_sets.specs.Named.{in_named}
 use Rattle.char_sets.specs.Ranges.{IsSetOf}
-use Rattle.char_sets.specs.declared.named.NamedSet.{NamedSet}
 use Rattle.syntax_defs.specs.Reading.{Read, Fitting}
 use Rattle.syntax_defs.specs.Escapes.{Char, Set, signed}
 use Rattle.syntax_defs.specs.Escapes as defs

@@ -1,10 +1,10 @@
 -- The steps of the body of a form.
-use Rattle.std.proofs.Common.{◌≡◌, ℕ, zero, suc, ◌+◌, ◌-◌, ◌<◌, length, true, false, Ok, Err, refl, sym, ap, ◌∙◌, arith}
+use Rattle.std.proofs.Common.{◌≡◌, ℕ, zero, suc, ◌+◌, ◌-◌, ◌<◌, length, true, false, Ok, Err, refl, ap, arith}
 use Rattle.syntax_defs.specs.declared.items.Options.{Options}
 use Rattle.syntax_defs.specs.declared.refusal.PatternRefusal.{PatternRefusal}
 use Rattle.syntax_defs.specs.declared.refusal.PatternRefusal.TheVariants as refusals
 use Rattle.syntax_defs.specs.Reading.{Fault, Syntax, TooDeep, Fails, ◌>>=◌}
-use Rattle.syntax_defs.specs.PatternSyntax.{Seen, Body, Going, Stepped, step, steps, after_step, body_at, empty_body}
+use Rattle.syntax_defs.specs.PatternSyntax.{Seen, Body, Going, step, steps, after_step, body_at, empty_body}
 
 pub body_at-none : (n : ℕ) (o : Options) (s : Seen) → n ≡ 0 → body_at n o s ≡ Err (TooDeep 101)
 unfolding body_at

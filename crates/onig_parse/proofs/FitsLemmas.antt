@@ -1,5 +1,5 @@
 -- Nodes that stand for items, one more at a time.
-use Rattle.std.proofs.Common.{◌≡◌, ℕ, List, [], ◌∷◌, ◌++◌, Option}
+use Rattle.std.proofs.Common.{ℕ, List, [], ◌∷◌, ◌++◌, Option}
 use Rattle.pattern_defs.specs.declared.nodes.PatNode.{PatNode}
 use Rattle.pattern_defs.specs.Patterns.{NodeLists, IsNode, AreNodes}
 use Rattle.syntax_defs.specs.declared.items.Item.{Item}

@@ -1,5 +1,5 @@
 -- How a pattern keeps its lists, and a draft those that it has so far.
-use Rattle.std.specs.Prelude.{◌≡◌, ◌<◌, ◌≤◌, length, map, sum_by}
+use Rattle.std.specs.Prelude.{◌≡◌, ◌<◌, length, map, sum_by}
 use Rattle.pattern_defs.specs.Patterns.{Tree, AreLists}
 use Rattle.onig_parse.specs.Drafts.{Drafted}
 use Rattle.onig_parse.specs.declared.pattern.Pattern.TheInside.{Inside}

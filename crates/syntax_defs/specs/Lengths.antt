@@ -1,9 +1,7 @@
 -- Tests of a whole text: how long what a lookbehind sees is, and whether the groups of back references are there.
-use Rattle.std.specs.Prelude.{ℕ, ◌+◌, ◌-◌, ◌*◌, ◌==◌, nat_le, nat_lt, nat_eq, min, List, [], ◌∷◌, ◌++◌, length, map, fold, find, slice_get, Bool, true, false, ◌&&◌, ◌||◌, not, if◌then◌else◌, Option, Some, None, is_none, option_and_then, Result, Ok, Err}
-use Rattle.std.specs.List.{list_any, list_all, flat_map}
-use Rattle.std.specs.Option.{option_map}
+use Rattle.std.specs.Prelude.{ℕ, ◌+◌, ◌*◌, ◌==◌, nat_le, nat_lt, min, List, [], ◌∷◌, ◌++◌, length, fold, find, slice_get, Bool, true, false, if◌then◌else◌, Option, Some, None, is_none, option_and_then, Result, Ok, Err}
+use Rattle.std.specs.List.{list_any, list_all}
 use Rattle.pattern_defs.specs.declared.nodes.ListId.{ListId}
-use Rattle.syntax_defs.specs.declared.items.Span.{Span}
 use Rattle.syntax_defs.specs.declared.items.GroupName.{GroupName}
 use Rattle.syntax_defs.specs.declared.items.Target.{Target}
 use Rattle.syntax_defs.specs.declared.items.Target.TheVariants as targets

@@ -1,14 +1,12 @@
 -- Worked examples of reading a pattern text, each named by what it shows.
-use Rattle.std.specs.Prelude.{◌≡◌, ℕ, List, [], ◌∷◌, codes, Bool, true, false, Option, Some, None, Result, Ok, Err, refl}
+use Rattle.std.specs.Prelude.{◌≡◌, ℕ, List, [], ◌∷◌, codes, Bool, true, false, Some, None, Result, Ok, Err, refl}
 use Rattle.pattern_defs.specs.declared.nodes.ListId.{ListId}
 use Rattle.pattern_defs.specs.declared.nodes.Anchor.TheVariants as anchors
 use Rattle.syntax_defs.specs.declared.items.Options.{Options}
-use Rattle.syntax_defs.specs.declared.items.Span.{Span}
-use Rattle.syntax_defs.specs.declared.items.GroupName.{GroupName}
 use Rattle.syntax_defs.specs.declared.items.Target.TheVariants as targets
 use Rattle.syntax_defs.specs.declared.items.Item.{Item}
-use Rattle.syntax_defs.specs.declared.items.Item.TheVariants.{One, At, Choice, Group, Repeat, Ahead, Behind, Atomic, Back}
-use Rattle.syntax_defs.specs.Reading.{Fault, Syntax, LeftOut, TooDeep, TooLong}
+use Rattle.syntax_defs.specs.declared.items.Item.TheVariants.{One, At, Choice, Group, Repeat, Behind, Atomic, Back}
+use Rattle.syntax_defs.specs.Reading.{Fault, Syntax, LeftOut, TooDeep}
 use Rattle.syntax_defs.specs.PatternSyntax.{Parsed}
 use Rattle.syntax_defs.specs.Lengths.{read_pattern}
 

@@ -1,6 +1,6 @@
 -- Reading a pattern text from left to right: its items in numbered lists, or the first fault. Lists are numbered in
 -- the order in which they end, which is this project's own, as are the limits.
-use Rattle.std.specs.Prelude.{ℕ, zero, suc, ◌+◌, ◌-◌, ◌==◌, nat_lt, nat_le, List, [], ◌∷◌, ◌++◌, length, drop, min, Bool, true, false, ◌&&◌, ◌||◌, not, if◌then◌else◌, Option, Some, None, Result, Ok, Err}
+use Rattle.std.specs.Prelude.{ℕ, zero, suc, ◌+◌, ◌-◌, ◌==◌, nat_lt, nat_le, List, [], ◌∷◌, ◌++◌, length, drop, min, Bool, true, false, ◌||◌, not, if◌then◌else◌, Option, Some, None, Result, Ok, Err}
 use Rattle.std.specs.List.{list_any, prefix_len}
 use Rattle.std.specs.Str.{bytes_eq}
 use Rattle.pattern_defs.specs.declared.nodes.ListId.{ListId}
@@ -13,12 +13,12 @@ use Rattle.syntax_defs.specs.declared.items.Item.{Item}
 use Rattle.syntax_defs.specs.declared.items.Item.TheVariants as items
 use Rattle.syntax_defs.specs.declared.items.Bounds.{Bounds}
 use Rattle.syntax_defs.specs.declared.items.Form.{Form}
-use Rattle.syntax_defs.specs.declared.items.Form.TheVariants.{Sign, Count, Interval}
+use Rattle.syntax_defs.specs.declared.items.Form.TheVariants.{Sign, Count}
 use Rattle.syntax_defs.specs.declared.items.Sight.{Sight}
 use Rattle.syntax_defs.specs.declared.items.Sight.TheVariants.{End, Bar, Close, Blank, Remark, Comment, Repeat, Open, Edge, Number, Reference, Single}
 use Rattle.syntax_defs.specs.declared.items.Head.{Head}
 use Rattle.syntax_defs.specs.declared.items.Head.TheVariants.{Numbered, Plain, Rest, Ahead, Behind, Atomic}
-use Rattle.syntax_defs.specs.Reading.{Fault, Syntax, LeftOut, TooDeep, TooLong, Read, ◌>>=◌}
+use Rattle.syntax_defs.specs.Reading.{Fault, Syntax, LeftOut, TooDeep, ◌>>=◌}
 use Rattle.syntax_defs.specs.Sights.{digits, digit_count, number_of, begins_with, sight_at}
 use Rattle.syntax_defs.specs.Heads.{word, word_at, is_name_or_number, is_number, head_at, inside}
 use Rattle.syntax_defs.specs.Singles.{single_at}

@@ -7,7 +7,6 @@ use Rattle.pattern_defs.specs.declared.nodes.Anchor.{Anchor}
 use Rattle.pattern_defs.specs.declared.nodes.Anchor.TheVariants.{LineStart, LineEnd, First, Mark, LastEnd, WordEdge, NoWordEdge}
 use Rattle.pattern_defs.specs.declared.nodes.Anchor.TheVariants as anchors
 use Rattle.syntax_defs.specs.declared.items.Options.{Options}
-use Rattle.syntax_defs.specs.declared.items.Bounds.{Bounds}
 use Rattle.syntax_defs.specs.declared.items.Form.{Form}
 use Rattle.syntax_defs.specs.declared.items.Form.TheVariants.{Sign, Count, Interval}
 use Rattle.syntax_defs.specs.declared.items.Sight.{Sight}

@@ -1,9 +1,9 @@
-use Rattle.std.proofs.Common.{◌≡◌, ◌+◌, ◌≤◌, ◌<◌, ◌-◌, length, drop, true, sym, refl, arith}
+use Rattle.std.proofs.Common.{◌+◌, ◌≤◌, length, sym, arith}
 use Rattle.std.proofs.lemmas.List.{drop-drop}
 use Rattle.std.proofs.lemmas.Result.{err_from_is_err_and}
 use Rattle.syntax_defs.specs.declared.class_part.ClassPart.TheVariants.{End, Close, And, Class, Member}
-use Rattle.syntax_defs.specs.Classes.{members_at, class_within, no_members, together, next_side, with_member}
-use Rattle.onig_class.proofs.ClassLemmas.{Going, Turn, turn, fails_bind, member_of, placed_gives, signed_gives, no_levels, some_levels}
+use Rattle.syntax_defs.specs.Classes.{together, next_side, with_member}
+use Rattle.onig_class.proofs.ClassLemmas.{turn, fails_bind, member_of, placed_gives, signed_gives, no_levels, some_levels}
 use Rattle.onig_class.proofs.class.+class.Goals as goal
 
 pub class_within-returns-then-levels-eq0-clause-value :

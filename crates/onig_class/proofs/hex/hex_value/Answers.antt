@@ -1,8 +1,4 @@
-use Rattle.std.proofs.Common.{rules, arith, ◌≡◌, ◌<◌, ◌≤◌, ◌+◌, ◌^◌, true, length, take, drop, ℕ, ◌-◌, ◌*◌, ◌/◌, ◌%◌, Bool, false, nat_eq, nat_lt, List, [], ◌∷◌, ◌++◌, slice_index_or, slice_set, bit_and, bit_or, Fits, w8, w32, w64, Bor, MutBor}
-use Rattle.std.specs.List.{list_all}
-use Rattle.std.specs.Char.{is_digit}
-use Rattle.syntax_defs.specs.Reading.{Gives}
-use Rattle.syntax_defs.specs.Escapes.{hex_count, hex_value, byte_at}
+use Rattle.std.proofs.Common.{arith, ◌<◌, ◌^◌}
 use Rattle.onig_class.proofs.HexLemmas.{few_digits, next_digit}
 use Rattle.onig_class.proofs.hex.hex_value.Goals as goal
 

@@ -1,4 +1,4 @@
-use Rattle.std.proofs.Common.{◌≡◌, ◌<◌, ◌≤◌, ◌^◌, take}
+use Rattle.std.proofs.Common.{◌≡◌, ◌<◌, ◌^◌, take}
 use Rattle.syntax_defs.specs.Escapes.{hex_value}
 use Rattle.onig_class.proofs.hex.hex_value.Given as goal
 

@@ -1,4 +1,3 @@
-use Rattle.std.proofs.Common.{◌≡◌}
 use Rattle.onig_class.proofs.EscapeLemmas.{two_letters, longer_name}
 use Rattle.onig_class.proofs.names.by_plain_name.Goals as goal
 

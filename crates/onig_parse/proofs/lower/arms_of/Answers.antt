@@ -1,4 +1,4 @@
-use Rattle.std.proofs.Common.{sym, refl, arith}
+use Rattle.std.proofs.Common.{sym, arith}
 use Rattle.onig_parse.proofs.ListLemmas.{AllArms-push, map_more}
 use Rattle.onig_parse.proofs.lower.arms_of.Goals as goal
 

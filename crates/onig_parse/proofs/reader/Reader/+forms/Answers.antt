@@ -1,7 +1,5 @@
-use Rattle.std.proofs.Common.{◌≡◌, ◌+◌, ◌-◌, ◌<◌, length, true, false, Ok, Err, sym, ap, ◌∙◌, arith}
+use Rattle.std.proofs.Common.{◌<◌, sym, ◌∙◌, arith}
 use Rattle.std.proofs.lemmas.Result.{err_from_is_err_and}
-use Rattle.syntax_defs.specs.Reading.{Fails}
-use Rattle.syntax_defs.specs.PatternSyntax.{body_at, step, steps}
 use Rattle.onig_parse.proofs.BodySteps.{body_at-none, body_at-steps, steps-more, steps-end, steps-out, steps-fails}
 use Rattle.onig_parse.proofs.reader.Reader.+forms.Goals as goal
 
