@@ -316,13 +316,15 @@ const NESTED: &str = "\
     $¦a\n¦2¦1000¦--¦2-2¶\
     \\b¦\u{e9}¦1¦1000¦--¦1-1¶\
     \\B¦\u{e9}\u{e8}¦1¦1000¦--¦1-1¶\
+    (?<!(a))b¦cb¦1¦1000¦--¦1-2 .¶\
+    (?<!(a))b¦ab¦1¦1000¦--¦miss¶\
 ";
 
 #[test]
 fn nested_runs_references_and_anchors_answer_as_their_table_says(
     rt: HostRuntime,
 ) -> Result<(), Fail> {
-    assert_eq!(rt; faults(rt.alloc(), NESTED, 89)?.as_str(), "");
+    assert_eq!(rt; faults(rt.alloc(), NESTED, 91)?.as_str(), "");
     Ok(())
 }
 
