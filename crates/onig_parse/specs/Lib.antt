@@ -1,4 +1,5 @@
 pub mod Drafts
+pub mod Formed
 pub mod Kept
 pub mod Reader
 pub mod Reading

@@ -77,7 +77,7 @@ impl ParsedText {
         ensures { result ≡ group_of text.now self.now target }
     {
         match target {
-            Target::Number(n) if n <= self.groups => Some(n),
+            Target::Number(n) if 0 < n && n <= self.groups => Some(n),
             Target::Number(_) => None,
             Target::Name(name) => self.number_of_name(text, name),
         }

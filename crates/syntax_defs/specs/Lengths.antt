@@ -1,5 +1,5 @@
 -- Tests of a whole text: how long what a lookbehind sees is, and whether the groups of back references are there.
-use Rattle.std.specs.Prelude.{ℕ, ◌+◌, ◌*◌, ◌==◌, nat_le, nat_lt, min, List, [], ◌∷◌, ◌++◌, length, fold, find, slice_get, Bool, true, false, if◌then◌else◌, Option, Some, None, is_none, option_and_then, Result, Ok, Err}
+use Rattle.std.specs.Prelude.{ℕ, ◌+◌, ◌*◌, ◌==◌, nat_le, nat_lt, min, List, [], ◌∷◌, ◌++◌, length, fold, find, slice_get, Bool, true, false, ◌&&◌, if◌then◌else◌, Option, Some, None, is_none, option_and_then, Result, Ok, Err}
 use Rattle.std.specs.List.{list_any, list_all}
 use Rattle.pattern_defs.specs.declared.nodes.ListId.{ListId}
 use Rattle.syntax_defs.specs.declared.items.GroupName.{GroupName}
@@ -80,7 +80,7 @@ number_of_name (Some known) = Some known.number
 
 -- the group of a back reference, where the text has it
 abbrev pub group_of : List ℕ → Parsed → Target → Option ℕ
-group_of text parsed (targets.Number n) = if nat_le n parsed.groups then Some n else None
+group_of text parsed (targets.Number n) = if nat_lt 0 n && nat_le n parsed.groups then Some n else None
 group_of text parsed (targets.Name name) = number_of_name (find (is_named text name) parsed.names)
 
 -- faults that the whole text shows
