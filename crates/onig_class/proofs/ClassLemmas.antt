@@ -8,9 +8,11 @@ use Rattle.syntax_defs.specs.declared.class_part.ClassPart.{ClassPart}
 use Rattle.syntax_defs.specs.declared.refusal.PatternRefusal.{PatternRefusal}
 use Rattle.syntax_defs.specs.declared.refusal.PatternRefusal.TheVariants as refusals
 use Rattle.syntax_defs.specs.Reading.{Fault, TooDeep, Read, ◌>>=◌, Fails, FitsRead, Gives}
-use Rattle.syntax_defs.specs.Escapes.{signed}
+use Rattle.syntax_defs.specs.Escapes.{complement_if}
 use Rattle.syntax_defs.specs.Classes as defs
-use Rattle.syntax_defs.specs.Classes.{class_within, members_at, no_members, with_member, begins_with, body_at, by_part, part_at, SetReader}
+use Rattle.syntax_defs.specs.Classes.{class_within, members_at, no_members, with_member, class_body_at, by_part, part_at, SetReader}
+use Rattle.syntax_defs.specs.Limits.{most_levels}
+use Rattle.syntax_defs.specs.Sights.{begins_with}
 use Rattle.onig_class.specs.declared.sides.Sides.{Sides}
 use Rattle.onig_class.specs.SidesFit.{IsSides}
 
@@ -79,17 +81,17 @@ placed_gives text p next rest set (Ok found) whole fits ok err r is =
 placed_gives text p next rest set (Err e) whole fits ok err r is = rw err tt
 
 -- a class with its sign
-pub signed_gives : {E : Type 0} (text : List ℕ) (negated : Bool) (set : List CharRange) (next : ℕ) (read : Whole) (made : Result (List CharRange) E) (result : Result (List CharRange × ℕ) PatternRefusal) → FitsRead IsSetOf text set next read → ((p : ℕ → Bool) → IsSetOf set p → IfOk made (λ s. IsSetOf s (signed negated p))) → IfOk result (λ found. (found.1 ≡ next) × (made ≡ Ok found.0)) → IfErr result (λ e. e ≡ refusals.Memory) → Gives IsSetOf text result (read >>= λ x. Ok (record { value = signed negated x.value; place = x.place; rest = x.rest }))
-signed_gives text negated set next (Ok r) made result fits signs ok err = placed_gives text (signed negated r.value) next r.rest made result _ (signs r.value fits.value) ok err fits.rest (rw fits.place refl)
-signed_gives text negated set next (Err fault) made result fits signs ok err = absurd fits
+pub complement_gives : {E : Type 0} (text : List ℕ) (negated : Bool) (set : List CharRange) (next : ℕ) (read : Whole) (made : Result (List CharRange) E) (result : Result (List CharRange × ℕ) PatternRefusal) → FitsRead IsSetOf text set next read → ((p : ℕ → Bool) → IsSetOf set p → IfOk made (λ s. IsSetOf s (complement_if negated p))) → IfOk result (λ found. (found.1 ≡ next) × (made ≡ Ok found.0)) → IfErr result (λ e. e ≡ refusals.Memory) → Gives IsSetOf text result (read >>= λ x. Ok (record { value = complement_if negated x.value; place = x.place; rest = x.rest }))
+complement_gives text negated set next (Ok r) made result fits signs ok err = placed_gives text (complement_if negated r.value) next r.rest made result _ (signs r.value fits.value) ok err fits.rest (rw fits.place refl)
+complement_gives text negated set next (Err fault) made result fits signs ok err = absurd fits
 
-pub no_levels : (levels at : ℕ) (fold : Bool) (rest : List ℕ) → levels ≡ 0 → class_within levels fold at rest ≡ Err (TooDeep 101)
+pub no_levels : (levels at : ℕ) (fold : Bool) (rest : List ℕ) → levels ≡ 0 → class_within levels fold at rest ≡ Err (TooDeep (most_levels + 1))
 unfolding class_within
 no_levels zero at fold rest e = refl
 no_levels (suc levels) at fold rest e = absurd (omega arith)
 
 -- a class whose level may be opened
-pub some_levels : (levels at start : ℕ) (fold negated : Bool) (text : List ℕ) → (levels ≡ 0 → ⊥) → negated ≡ begins_with 94 (drop (at + 1) text) → start ≡ at + (if negated then 2 else 1) → class_within levels fold at (drop at text) ≡ (members_at (class_within (levels - 1) fold) fold true (length (drop at text)) no_members start (drop start text) >>= λ x. Ok (record { value = signed negated x.value; place = x.place; rest = x.rest }))
+pub some_levels : (levels at start : ℕ) (fold negated : Bool) (text : List ℕ) → (levels ≡ 0 → ⊥) → negated ≡ begins_with 94 (drop (at + 1) text) → start ≡ at + (if negated then 2 else 1) → class_within levels fold at (drop at text) ≡ (members_at (class_within (levels - 1) fold) fold true (length (drop at text)) no_members start (drop start text) >>= λ x. Ok (record { value = complement_if negated x.value; place = x.place; rest = x.rest }))
 unfolding class_within
 some_levels zero at start fold negated text some n s = absurd (some refl)
 some_levels (suc levels) at start fold negated text some n s =

@@ -3,7 +3,7 @@ use Rattle.std.specs.Prelude.{◌≡◌, ℕ, List, Option, Some, None}
 use Rattle.char_sets.specs.Named.{in_named}
 use Rattle.char_sets.specs.Ranges.{IsSetOf}
 use Rattle.syntax_defs.specs.Reading.{Read, Fitting}
-use Rattle.syntax_defs.specs.Escapes.{Char, Set, signed}
+use Rattle.syntax_defs.specs.Escapes.{Char, Set, complement_if}
 use Rattle.syntax_defs.specs.Escapes as defs
 use Rattle.onig_class.specs.declared.escape.Escape.{Escape}
 use Rattle.onig_class.specs.declared.escape.Escape.TheVariants as escapes
@@ -13,7 +13,7 @@ use Rattle.onig_class.specs.declared.escape.Escaped.TheVariants as values
 -- an escape, with its set by name
 abbrev pub IsEscape : Escape → defs.Escaped → Type 0
 IsEscape (escapes.Char c) e = e ≡ Char c
-IsEscape (escapes.Set set negated) e = e ≡ Set (signed negated (in_named set))
+IsEscape (escapes.Set set negated) e = e ≡ Set (complement_if negated (in_named set))
 
 -- an escape, with its set as ranges
 abbrev pub IsEscaped : Escaped → defs.Escaped → Type 0

@@ -1,15 +1,17 @@
 ghost use Rattle.std.specs.Prelude.{◌≡◌, ◌<◌, ◌≤◌, ◌+◌, ◌-◌, true, length, drop, slice_get, IfOk, if◌then◌else◌};
 ghost use Rattle.char_sets.specs.Ranges.{IsSetOf};
 ghost use Rattle.syntax_defs.specs.Reading.{Gives};
-ghost use Rattle.syntax_defs.specs.Classes.{no_members, begins_with, part_at, members_at, class_within, class_at};
+ghost use Rattle.syntax_defs.specs.Classes.{no_members, part_at, members_at, class_within, class_at};
+ghost use Rattle.syntax_defs.specs.Sights.{begins_with};
 ghost use Rattle.onig_class.specs.SidesFit.{needs};
+ghost use Rattle.syntax_defs.specs.Limits.{most_pattern_chars, most_levels};
 
 use crate::items::{begins_with, bracket_at, member_at, placed};
-use crate::sets::signed;
+use crate::sets::complement_if;
 use crate::sides::Sides;
 use char_sets::CharSet;
 use std::alloc::Global;
-use syntax_defs::{ClassPart, PatternRefusal};
+use syntax_defs::{ClassPart, MOST_LEVELS, PatternRefusal};
 
 /// What stands next in a class.
 #[tactic(auto, unfolding(syntax_defs::specs::Classes::part_at))]
@@ -30,7 +32,7 @@ fn part_at(text: &[char], at: usize, first: bool) -> ClassPart
 /// Whether a class is a complement, and where its members begin.
 fn opening(text: &[char], at: usize) -> (bool, usize)
     requires there { at < length text.now }
-    requires short { length text.now ≤ 65_536 }
+    requires short { length text.now ≤ most_pattern_chars }
     ensures negated { result.0 ≡ begins_with 94 (drop (at + 1) text.now) }
     ensures start { result.1 ≡ at + (if result.0 then 2 else 1) }
     ensures inside { result.1 ≤ length text.now }
@@ -53,8 +55,8 @@ fn members(
 ) -> Result<(CharSet, usize), PatternRefusal>
     requires before { from < start }
     requires there { start ≤ length text.now }
-    requires short { length text.now ≤ 65_536 }
-    requires few { levels ≤ 100 }
+    requires short { length text.now ≤ most_pattern_chars }
+    requires few { levels ≤ most_levels }
     ensures value { Gives IsSetOf text.now result (members_at (class_within levels fold) fold true
         (length (drop from text.now)) no_members start (drop start text.now)) }
     ensures place { IfOk result (λ found. (start < found.1) × (found.1 ≤ length text.now)) }
@@ -95,17 +97,19 @@ fn class_within(
     levels: u32,
 ) -> Result<(CharSet, usize), PatternRefusal>
     requires there { at < length text.now }
-    requires short { length text.now ≤ 65_536 }
-    requires few { levels ≤ 100 }
+    requires short { length text.now ≤ most_pattern_chars }
+    requires few { levels ≤ most_levels }
     ensures value { Gives IsSetOf text.now result (class_within levels fold at (drop at text.now)) }
     ensures place { IfOk result (λ found. (at < found.1) × (found.1 ≤ length text.now)) }
 {
     if levels == 0 {
-        return Err(PatternRefusal::TooDeep { depth: 101 });
+        return Err(PatternRefusal::TooDeep {
+            depth: u64::from(MOST_LEVELS) + 1,
+        });
     }
     let (negated, start) = opening(text, at);
     let (set, next) = members(alloc, text, at, start, fold, levels - 1)?;
-    placed(signed(alloc, set, negated), next)
+    placed(complement_if(alloc, set, negated), next)
 }
 
 /// A class from its `[` at `at` on, and the place behind it. So many groups and classes are open round it. Under
@@ -118,10 +122,10 @@ pub fn read_class(
     depth: u32,
 ) -> Result<(CharSet, usize), PatternRefusal>
     requires there { slice_get text.now at ≡ Some 91 }
-    requires short { length text.now ≤ 65_536 }
-    requires few { depth ≤ 100 }
+    requires short { length text.now ≤ most_pattern_chars }
+    requires few { depth ≤ most_levels }
     ensures value { Gives IsSetOf text.now result (class_at fold depth at (drop at text.now)) }
     ensures place { IfOk result (λ found. (at < found.1) × (found.1 ≤ length text.now)) }
 {
-    class_within(alloc, text, at, fold, 100 - depth)
+    class_within(alloc, text, at, fold, MOST_LEVELS - depth)
 }

@@ -2,6 +2,7 @@ ghost use Rattle.std.specs.Prelude.{◌≡◌, ◌<◌, ◌≤◌, ◌+◌, ℕ,
 ghost use Rattle.syntax_defs.specs.Reading.{Gives};
 ghost use Rattle.syntax_defs.specs.Escapes.{control_of, set_of, closing, property_to, property_at, longer_escape, escape_by, behind_backslash, escape_at};
 ghost use Rattle.onig_class.specs.Fits.{IsEscape, IsEscaped};
+ghost use Rattle.syntax_defs.specs.Limits.{most_pattern_chars};
 
 use crate::hex::{hex, unicode};
 use crate::names::property_by;
@@ -74,7 +75,7 @@ fn property(
     negated: bool,
 ) -> Result<(Escape, usize), PatternRefusal>
     requires there { at + 2 ≤ length text.now }
-    requires short { length text.now ≤ 65_536 }
+    requires short { length text.now ≤ most_pattern_chars }
     ensures value { Gives IsEscape text.now result (property_at at negated (drop (at + 2) text.now)) }
     ensures place { IfOk result (λ found. (at < found.1) × (found.1 ≤ length text.now)) }
 {
@@ -98,7 +99,7 @@ fn named(
     negated: bool,
 ) -> Result<(Escape, usize), PatternRefusal>
     requires there { at + long + 4 ≤ length text.now }
-    requires short { length text.now ≤ 65_536 }
+    requires short { length text.now ≤ most_pattern_chars }
     ensures value { (rest : List ℕ) → drop (at + 3) text.now ≡ rest
         → Gives IsEscape text.now result (property_to at negated rest (Some long)) }
     ensures place { IfOk result (λ found. (at < found.1) × (found.1 ≤ length text.now)) }
@@ -121,7 +122,7 @@ fn longer_escape(
     c: char,
 ) -> Result<(Escape, usize), PatternRefusal>
     requires there { at + 2 ≤ length text.now }
-    requires short { length text.now ≤ 65_536 }
+    requires short { length text.now ≤ most_pattern_chars }
     ensures value { Gives IsEscape text.now result (longer_escape at c (drop (at + 2) text.now)) }
     ensures place { IfOk result (λ found. (at < found.1) × (found.1 ≤ length text.now)) }
 {
@@ -144,7 +145,7 @@ fn escape_by(
     c: char,
 ) -> Result<(Escape, usize), PatternRefusal>
     requires there { at + 2 ≤ length text.now }
-    requires short { length text.now ≤ 65_536 }
+    requires short { length text.now ≤ most_pattern_chars }
     ensures value { Gives IsEscape text.now result (escape_by at c (drop (at + 2) text.now)) }
     ensures place { IfOk result (λ found. (at < found.1) × (found.1 ≤ length text.now)) }
 {
@@ -165,7 +166,7 @@ pub(crate) fn escape_at(
     at: usize,
 ) -> Result<(Escape, usize), PatternRefusal>
     requires there { at < length text.now }
-    requires short { length text.now ≤ 65_536 }
+    requires short { length text.now ≤ most_pattern_chars }
     ensures value { Gives IsEscape text.now result (behind_backslash at (drop (at + 1) text.now)) }
     ensures place { IfOk result (λ found. (at < found.1) × (found.1 ≤ length text.now)) }
 {
@@ -182,7 +183,7 @@ pub fn read_escape(
     at: usize,
 ) -> Result<(Escaped, usize), PatternRefusal>
     requires there { slice_get text.now at ≡ Some 92 }
-    requires short { length text.now ≤ 65_536 }
+    requires short { length text.now ≤ most_pattern_chars }
     ensures value { Gives IsEscaped text.now result (escape_at at (drop at text.now)) }
     ensures place { IfOk result (λ found. (at < found.1) × (found.1 ≤ length text.now)) }
 {
@@ -191,7 +192,7 @@ pub fn read_escape(
 
 fn made(alloc: Global, text: &[char], at: usize) -> Result<(Escaped, usize), PatternRefusal>
     requires there { at < length text.now }
-    requires short { length text.now ≤ 65_536 }
+    requires short { length text.now ≤ most_pattern_chars }
     ensures value { Gives IsEscaped text.now result (behind_backslash at (drop (at + 1) text.now)) }
     ensures place { IfOk result (λ found. (at < found.1) × (found.1 ≤ length text.now)) }
 {

@@ -5,6 +5,7 @@ ghost use Rattle.syntax_defs.specs.Reading.{Gives};
 ghost use Rattle.syntax_defs.specs.Escapes.{hex_count, hex_value, scalar_or_fault, byte_at, unicode_at, brace_at, braced_at, hex_at};
 ghost use Rattle.onig_class.specs.Fits.{IsEscape};
 ghost use Rattle.onig_class.specs.Digits.{AreDigits};
+ghost use Rattle.syntax_defs.specs.Limits.{most_pattern_chars};
 
 use crate::escape::Escape;
 use syntax_defs::PatternRefusal;
@@ -52,7 +53,7 @@ fn hex_digits(rest: &[char], most: usize) -> (usize, u32)
 
 /// The character with a code, for an escape at `at` and up to `next`.
 fn scalar(code: u32, at: usize, next: usize) -> Result<(Escape, usize), PatternRefusal>
-    requires { at ≤ 65_536 }
+    requires { at ≤ most_pattern_chars }
     ensures value { (text rest : List ℕ) → drop next text ≡ rest
         → Gives IsEscape text result (scalar_or_fault at code next rest) }
     ensures place { IfOk result (λ found. found.1 ≡ next) }
@@ -67,7 +68,7 @@ fn scalar(code: u32, at: usize, next: usize) -> Result<(Escape, usize), PatternR
 #[tactic(auto, unfolding(syntax_defs::specs::Escapes::byte_at))]
 fn byte(text: &[char], at: usize) -> Result<(Escape, usize), PatternRefusal>
     requires there { at + 2 ≤ length text.now }
-    requires short { length text.now ≤ 65_536 }
+    requires short { length text.now ≤ most_pattern_chars }
     ensures value { Gives IsEscape text.now result (byte_at at (drop (at + 2) text.now)) }
     ensures place { IfOk result (λ found. (at < found.1) × (found.1 ≤ length text.now)) }
 {
@@ -85,7 +86,7 @@ fn byte(text: &[char], at: usize) -> Result<(Escape, usize), PatternRefusal>
 #[tactic(auto, unfolding(syntax_defs::specs::Escapes::unicode_at))]
 pub(crate) fn unicode(text: &[char], at: usize) -> Result<(Escape, usize), PatternRefusal>
     requires there { at + 2 ≤ length text.now }
-    requires short { length text.now ≤ 65_536 }
+    requires short { length text.now ≤ most_pattern_chars }
     ensures value { Gives IsEscape text.now result (unicode_at at (drop (at + 2) text.now)) }
     ensures place { IfOk result (λ found. (at < found.1) × (found.1 ≤ length text.now)) }
 {
@@ -106,7 +107,7 @@ fn brace(
 ) -> Result<(Escape, usize), PatternRefusal>
     requires there { next ≤ length text.now }
     requires before { at ≤ next }
-    requires short { length text.now ≤ 65_536 }
+    requires short { length text.now ≤ most_pattern_chars }
     ensures value { (rest : List ℕ) → drop next text.now ≡ rest
         → Gives IsEscape text.now result (brace_at at code next rest) }
     ensures place { IfOk result (λ found. (at < found.1) × (found.1 ≤ length text.now)) }
@@ -122,7 +123,7 @@ fn brace(
 #[tactic(auto, unfolding(syntax_defs::specs::Escapes::braced_at))]
 fn braced(text: &[char], at: usize) -> Result<(Escape, usize), PatternRefusal>
     requires there { at + 3 ≤ length text.now }
-    requires short { length text.now ≤ 65_536 }
+    requires short { length text.now ≤ most_pattern_chars }
     ensures value { Gives IsEscape text.now result (braced_at at (drop (at + 3) text.now)) }
     ensures place { IfOk result (λ found. (at < found.1) × (found.1 ≤ length text.now)) }
 {
@@ -141,7 +142,7 @@ fn braced(text: &[char], at: usize) -> Result<(Escape, usize), PatternRefusal>
 #[tactic(auto, unfolding(syntax_defs::specs::Escapes::hex_at))]
 pub(crate) fn hex(text: &[char], at: usize) -> Result<(Escape, usize), PatternRefusal>
     requires there { at + 2 ≤ length text.now }
-    requires short { length text.now ≤ 65_536 }
+    requires short { length text.now ≤ most_pattern_chars }
     ensures value { Gives IsEscape text.now result (hex_at at (drop (at + 2) text.now)) }
     ensures place { IfOk result (λ found. (at < found.1) × (found.1 ≤ length text.now)) }
 {

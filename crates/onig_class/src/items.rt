@@ -3,8 +3,10 @@ ghost use Rattle.std.specs.List.{prefix_len};
 ghost use Rattle.char_sets.specs.Named.{is_word};
 ghost use Rattle.char_sets.specs.Ranges.{IsSetOf};
 ghost use Rattle.syntax_defs.specs.Reading.{Gives};
-ghost use Rattle.syntax_defs.specs.Classes.{name_length, named_by, behind_colon, bracket_at, behind_class_backslash, behind_bracket, item_at, char_of, begins_with, single_at, range_end, range_or_one, member_at};
+ghost use Rattle.syntax_defs.specs.Classes.{name_length, named_by, behind_colon, bracket_at, behind_class_backslash, behind_bracket, item_at, char_of, range_char_at, range_end, range_or_one, member_at};
+ghost use Rattle.syntax_defs.specs.Sights.{begins_with};
 ghost use Rattle.onig_class.specs.Fits.{IsEscape, IsSingle};
+ghost use Rattle.syntax_defs.specs.Limits.{most_pattern_chars};
 
 use crate::escape::{Escape, escape_at};
 use crate::names::named_bracket;
@@ -74,7 +76,7 @@ pub(crate) fn bracket_at(rest: &[char]) -> Option<(bool, usize, usize)>
 #[tactic(auto, unfolding(syntax_defs::specs::Classes::behind_bracket))]
 fn bracket(text: &[char], at: usize) -> Result<(Escape, usize), PatternRefusal>
     requires there { at < length text.now }
-    requires short { length text.now ≤ 65_536 }
+    requires short { length text.now ≤ most_pattern_chars }
     ensures value { Gives IsEscape text.now result (behind_bracket at (drop (at + 1) text.now)) }
     ensures place { IfOk result (λ found. (at < found.1) × (found.1 ≤ length text.now)) }
 {
@@ -92,7 +94,7 @@ fn bracket(text: &[char], at: usize) -> Result<(Escape, usize), PatternRefusal>
 #[tactic(auto, unfolding(syntax_defs::specs::Classes::behind_class_backslash))]
 fn class_escape(alloc: Global, text: &[char], at: usize) -> Result<(Escape, usize), PatternRefusal>
     requires there { at < length text.now }
-    requires short { length text.now ≤ 65_536 }
+    requires short { length text.now ≤ most_pattern_chars }
     ensures value { Gives IsEscape text.now result (behind_class_backslash at (drop (at + 1) text.now)) }
     ensures place { IfOk result (λ found. (at < found.1) × (found.1 ≤ length text.now)) }
 {
@@ -107,7 +109,7 @@ fn class_escape(alloc: Global, text: &[char], at: usize) -> Result<(Escape, usiz
 #[tactic(auto, unfolding(syntax_defs::specs::Classes::item_at))]
 fn item_at(alloc: Global, text: &[char], at: usize) -> Result<(Escape, usize), PatternRefusal>
     requires there { at < length text.now }
-    requires short { length text.now ≤ 65_536 }
+    requires short { length text.now ≤ most_pattern_chars }
     ensures value { Gives IsEscape text.now result (item_at at (drop at text.now)) }
     ensures place { IfOk result (λ found. (at < found.1) × (found.1 ≤ length text.now)) }
 {
@@ -126,7 +128,7 @@ fn escaped_char(
     at: usize,
 ) -> Result<Option<(char, usize)>, PatternRefusal>
     requires there { at < length text.now }
-    requires short { length text.now ≤ 65_536 }
+    requires short { length text.now ≤ most_pattern_chars }
     ensures value { IfOk result (λ single. IsSingle text.now single
         (char_of (behind_class_backslash at (drop (at + 1) text.now)))) }
     ensures place { IfOk result (λ single. IfSome single (λ found. (at < found.1) × (found.1 ≤ length text.now))) }
@@ -141,15 +143,15 @@ fn escaped_char(
 }
 
 /// The single character that stands at a place, if one does.
-#[tactic(auto, unfolding(syntax_defs::specs::Classes::single_at))]
-fn single_at(
+#[tactic(auto, unfolding(syntax_defs::specs::Classes::range_char_at))]
+fn range_char_at(
     alloc: Global,
     text: &[char],
     at: usize,
 ) -> Result<Option<(char, usize)>, PatternRefusal>
     requires there { at ≤ length text.now }
-    requires short { length text.now ≤ 65_536 }
-    ensures value { IfOk result (λ single. IsSingle text.now single (single_at at (drop at text.now))) }
+    requires short { length text.now ≤ most_pattern_chars }
+    ensures value { IfOk result (λ single. IsSingle text.now single (range_char_at at (drop at text.now))) }
     ensures place { IfOk result (λ single. IfSome single (λ found. (at < found.1) × (found.1 ≤ length text.now))) }
     ensures memory { IfErr result (λ e. e ≡ PatternRefusal.Memory) }
 {
@@ -179,13 +181,13 @@ fn range_end(
     at: usize,
 ) -> Result<Option<(char, usize)>, PatternRefusal>
     requires there { at ≤ length text.now }
-    requires short { length text.now ≤ 65_536 }
+    requires short { length text.now ≤ most_pattern_chars }
     ensures value { IfOk result (λ single. IsSingle text.now single (range_end at (drop at text.now))) }
     ensures place { IfOk result (λ single. IfSome single (λ found. (at < found.1) × (found.1 ≤ length text.now))) }
     ensures memory { IfErr result (λ e. e ≡ PatternRefusal.Memory) }
 {
     match &text[at..] {
-        ['-', ..] => single_at(alloc, text, at + 1),
+        ['-', ..] => range_char_at(alloc, text, at + 1),
         _ => Ok(None),
     }
 }
@@ -215,7 +217,7 @@ fn range_or_one(
 ) -> Result<(CharSet, usize), PatternRefusal>
     requires before { at < next }
     requires there { next ≤ length text.now }
-    requires short { length text.now ≤ 65_536 }
+    requires short { length text.now ≤ most_pattern_chars }
     ensures value { Gives IsSetOf text.now result
         (range_or_one fold at first next (drop next text.now) (range_end next (drop next text.now))) }
     ensures place { IfOk result (λ found. (at < found.1) × (found.1 ≤ length text.now)) }
@@ -236,7 +238,7 @@ pub(crate) fn member_at(
     fold: bool,
 ) -> Result<(CharSet, usize), PatternRefusal>
     requires there { at < length text.now }
-    requires short { length text.now ≤ 65_536 }
+    requires short { length text.now ≤ most_pattern_chars }
     ensures value { Gives IsSetOf text.now result (member_at fold at (drop at text.now)) }
     ensures place { IfOk result (λ found. (at < found.1) × (found.1 ≤ length text.now)) }
 {

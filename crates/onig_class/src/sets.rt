@@ -2,8 +2,8 @@ ghost use Rattle.std.specs.Prelude.{◌≤◌, ℕ, Bool, IfOk};
 ghost use Rattle.char_sets.specs.Case.{is_from_to};
 ghost use Rattle.char_sets.specs.Named.{in_named};
 ghost use Rattle.char_sets.specs.Ranges.{IsSetOf};
-ghost use Rattle.syntax_defs.specs.Escapes.{signed};
-ghost use Rattle.syntax_defs.specs.Classes.{folded, is_char_folded, is_dot};
+ghost use Rattle.syntax_defs.specs.Escapes.{complement_if};
+ghost use Rattle.syntax_defs.specs.Classes.{test_folded, is_char_folded, is_dot};
 
 use char_sets::{CharSet, NamedSet};
 use std::alloc::{AllocError, Global};
@@ -16,7 +16,7 @@ pub(crate) fn char_range(
     fold: bool,
 ) -> Result<CharSet, AllocError>
     requires { first ≤ last }
-    ensures { IfOk result (λ s. IsSetOf s (folded fold (is_from_to first last))) }
+    ensures { IfOk result (λ s. IsSetOf s (test_folded fold (is_from_to first last))) }
 {
     let range = CharSet::range(alloc, first, last)?;
     if fold {
@@ -43,8 +43,8 @@ pub fn dot(alloc: Global, many: bool) -> Result<CharSet, AllocError>
 }
 
 /// A set or, where `negated`, its complement.
-pub(crate) fn signed(alloc: Global, set: CharSet, negated: bool) -> Result<CharSet, AllocError>
-    ensures { (p : ℕ → Bool) → IsSetOf set p → IfOk result (λ s. IsSetOf s (signed negated p)) }
+pub(crate) fn complement_if(alloc: Global, set: CharSet, negated: bool) -> Result<CharSet, AllocError>
+    ensures { (p : ℕ → Bool) → IsSetOf set p → IfOk result (λ s. IsSetOf s (complement_if negated p)) }
 {
     if negated {
         return set.complement(alloc);
@@ -54,7 +54,7 @@ pub(crate) fn signed(alloc: Global, set: CharSet, negated: bool) -> Result<CharS
 
 /// A named set or, where `negated`, its complement.
 pub(crate) fn named_set(alloc: Global, set: NamedSet, negated: bool) -> Result<CharSet, AllocError>
-    ensures { IfOk result (λ s. IsSetOf s (signed negated (in_named set))) }
+    ensures { IfOk result (λ s. IsSetOf s (complement_if negated (in_named set))) }
 {
-    signed(alloc, CharSet::named(alloc, set)?, negated)
+    complement_if(alloc, CharSet::named(alloc, set)?, negated)
 }

@@ -1,7 +1,7 @@
 ghost use Rattle.std.specs.Prelude.{◌≡◌, ◌≤◌, false, length, IfOk};
 ghost use Rattle.std.specs.Str.{chars};
 ghost use Rattle.syntax_defs.specs.Lengths.{read_pattern, read_within, tested, kept_unless};
-ghost use Rattle.syntax_defs.specs.PatternMeaning.{IsPatternOf, IsReadAs};
+ghost use Rattle.syntax_defs.specs.PatternMeaning.{IsReadAs};
 ghost use Rattle.onig_parse.specs.Reading.{GivesPattern};
 
 use crate::late::late_fault;

@@ -2,14 +2,15 @@
 -- beside a set is itself, and that letters are joined with their other case before all else, is this project's own.
 use Rattle.std.specs.Prelude.{ℕ, zero, suc, ◌+◌, ◌-◌, ◌==◌, nat_lt, nat_eq, List, [], ◌∷◌, length, drop, slice_range, Bool, true, false, ◌&&◌, ◌||◌, not, if◌then◌else◌, is_none, Option, Some, None, Result, Ok, Err}
 use Rattle.std.specs.List.{prefix_len, starts_with}
-use Rattle.std.specs.Char.{is_ascii_alphabetic}
 use Rattle.char_sets.specs.Case.{other_case, is_from_to}
 use Rattle.char_sets.specs.Named.{is_word}
 use Rattle.char_sets.specs.declared.named.NamedSet.{NamedSet}
 use Rattle.syntax_defs.specs.declared.class_part.ClassPart.{ClassPart}
 use Rattle.syntax_defs.specs.declared.class_part.ClassPart.TheVariants as parts
+use Rattle.syntax_defs.specs.Limits.{most_levels}
 use Rattle.syntax_defs.specs.Reading.{Fault, Syntax, LeftOut, TooDeep, Read, ◌>>=◌}
-use Rattle.syntax_defs.specs.Escapes.{Escaped, Char, Set, Escape, escaped_char, escaped_set, signed, behind_backslash, named_bracket}
+use Rattle.syntax_defs.specs.Sights.{begins_with, is_name_start}
+use Rattle.syntax_defs.specs.Escapes.{Escaped, Char, Set, Escape, escaped_char, escaped_set, complement_if, behind_backslash, named_bracket}
 
 -- reading a set at a place
 abbrev pub SetReader : Type 0
@@ -18,13 +19,13 @@ SetReader = (place : ℕ) → List ℕ → Result (Read (ℕ → Bool)) Fault
 -- sets of characters
 
 -- under the option `i` a letter stands for both of its ASCII cases
-abbrev pub folded : (fold : Bool) → (ℕ → Bool) → ℕ → Bool
-folded true p c = p c || p (other_case c)
-folded false p c = p c
+abbrev pub test_folded : (fold : Bool) → (ℕ → Bool) → ℕ → Bool
+test_folded true p c = p c || p (other_case c)
+test_folded false p c = p c
 
 -- one character, which stands for itself
 abbrev pub is_char_folded : (fold : Bool) → (char : ℕ) → ℕ → Bool
-is_char_folded fold char = folded fold (is_from_to char char)
+is_char_folded fold char = test_folded fold (is_from_to char char)
 
 -- the dot: any character but LF, and under the option `m` any
 abbrev pub is_dot : (many : Bool) → ℕ → Bool
@@ -33,14 +34,10 @@ is_dot false c = not (c == 10)
 
 -- names in brackets
 
-abbrev pub begins_with : ℕ → List ℕ → Bool
-begins_with c [] = false
-begins_with c (d ∷ rest) = d == c
-
--- how long the name is that a text begins with: an ASCII letter or `_`, and word characters behind it
+-- how long the name is that a text begins with: a character that may begin one, and word characters behind it
 abbrev pub name_length : List ℕ → ℕ
 name_length [] = 0
-name_length (c ∷ rest) = if is_ascii_alphabetic c || c == 95 then 1 + prefix_len is_word rest else 0
+name_length (c ∷ rest) = if is_name_start c then 1 + prefix_len is_word rest else 0
 
 -- whether a bracket is a complement, and where its name begins and ends, behind the `[`
 abbrev pub Bracket : Type 0
@@ -100,9 +97,9 @@ char_of (Ok item) = char_of_value item item.value
 char_of (Err fault) = None
 
 -- the single character that a text begins with, if one does
-unfoldable pub single_at : (place : ℕ) → List ℕ → Option (Read ℕ)
-single_at place [] = None
-single_at place (c ∷ rest) =
+unfoldable pub range_char_at : (place : ℕ) → List ℕ → Option (Read ℕ)
+range_char_at place [] = None
+range_char_at place (c ∷ rest) =
     if c == 92 then char_of (behind_class_backslash place rest)
     else if (c == 91 || c == 93) || (c == 38 && begins_with 38 rest) then None
     else Some (record { value = c; place = place + 1; rest = rest })
@@ -110,7 +107,7 @@ single_at place (c ∷ rest) =
 -- the last character of a range, behind its first: a `-`, and a single character
 unfoldable pub range_end : (place : ℕ) → List ℕ → Option (Read ℕ)
 range_end place [] = None
-range_end place (c ∷ rest) = if c == 45 then single_at (place + 1) rest else None
+range_end place (c ∷ rest) = if c == 45 then range_char_at (place + 1) rest else None
 
 -- a range from `first` on, or the one character, which ends at `next`
 abbrev pub range_or_one : (fold : Bool) (place first next : ℕ) → List ℕ → Option (Read ℕ) → Result (Read (ℕ → Bool)) Fault
@@ -118,7 +115,7 @@ range_or_one fold place first next rest None =
     Ok (record { value = is_char_folded fold first; place = next; rest = rest })
 range_or_one fold place first next rest (Some last) =
     if nat_lt last.value first then Err (Syntax place)
-    else Ok (record { value = folded fold (is_from_to first last.value); place = last.place; rest = last.rest })
+    else Ok (record { value = test_folded fold (is_from_to first last.value); place = last.place; rest = last.rest })
 
 abbrev pub member_from : (fold : Bool) (place next : ℕ) → List ℕ → Escaped → Result (Read (ℕ → Bool)) Fault
 member_from fold place next rest (Char c) = range_or_one fold place c next rest (range_end next rest)
@@ -173,18 +170,18 @@ members_at nested fold first (suc most) sides place rest =
     by_part (members_at nested fold false most) nested fold sides place rest (part_at first rest)
 
 -- behind the `[`, or the `[^`
-abbrev pub body_at : (nested : SetReader) (fold negated : Bool) → SetReader
-body_at nested fold negated place rest =
+abbrev pub class_body_at : (nested : SetReader) (fold negated : Bool) → SetReader
+class_body_at nested fold negated place rest =
     let opened = if negated then 2 else 1 in
     members_at nested fold true (length rest) no_members (place + opened) (drop opened rest)
-    >>= λ x. Ok (record { value = signed negated x.value; place = x.place; rest = x.rest })
+    >>= λ x. Ok (record { value = complement_if negated x.value; place = x.place; rest = x.rest })
 
 -- a class, where so many levels of classes may still be opened
 unfoldable pub class_within : (levels : ℕ) (fold : Bool) → SetReader
-class_within zero fold place rest = Err (TooDeep 101)
+class_within zero fold place rest = Err (TooDeep (most_levels + 1))
 class_within (suc levels) fold place rest =
-    body_at (class_within levels fold) fold (begins_with 94 (drop 1 rest)) place rest
+    class_body_at (class_within levels fold) fold (begins_with 94 (drop 1 rest)) place rest
 
 -- A class, from its `[` on. So many groups and classes are open round it.
 abbrev pub class_at : (fold : Bool) (depth : ℕ) → SetReader
-class_at fold depth = class_within (100 - depth) fold
+class_at fold depth = class_within (most_levels - depth) fold

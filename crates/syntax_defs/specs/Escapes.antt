@@ -23,15 +23,15 @@ abbrev pub Escape : Type 0
 Escape = Result (Read Escaped) Fault
 
 -- a set, or its complement where `negated`
-abbrev pub signed : (negated : Bool) → (ℕ → Bool) → ℕ → Bool
-signed true p c = not (p c)
-signed false p c = p c
+abbrev pub complement_if : (negated : Bool) → (ℕ → Bool) → ℕ → Bool
+complement_if true p c = not (p c)
+complement_if false p c = p c
 
 abbrev pub escaped_char : (c next : ℕ) → List ℕ → Escape
 escaped_char c next rest = Ok (record { value = Char c; place = next; rest = rest })
 
 abbrev pub escaped_set : (set : NamedSet × Bool) → (next : ℕ) → List ℕ → Escape
-escaped_set set next rest = Ok (record { value = Set (signed set.1 (in_named set.0)); place = next; rest = rest })
+escaped_set set next rest = Ok (record { value = Set (complement_if set.1 (in_named set.0)); place = next; rest = rest })
 
 -- names of sets
 

@@ -1,7 +1,7 @@
 -- The heads of forms in parentheses, and names. The forms are those of Oniguruma's RE with Ruby syntax; which are
 -- left out is this project's own.
 use Rattle.std.specs.Prelude.{ℕ, ◌+◌, ◌==◌, List, [], ◌∷◌, length, take, drop, Bool, true, false, ◌&&◌, ◌||◌, not, if◌then◌else◌, Some, None, Result, Ok, Err}
-use Rattle.std.specs.Char.{is_ascii_alphabetic, is_ascii_digit}
+use Rattle.std.specs.Char.{is_ascii_digit}
 use Rattle.std.specs.List.{list_any, list_all, prefix_len}
 use Rattle.char_sets.specs.Named.{is_word}
 use Rattle.syntax_defs.specs.declared.items.Options.{Options}
@@ -9,7 +9,7 @@ use Rattle.syntax_defs.specs.declared.items.Span.{Span}
 use Rattle.syntax_defs.specs.declared.items.Head.{Head}
 use Rattle.syntax_defs.specs.declared.items.Head.TheVariants.{Numbered, Plain, Rest, Ahead, Behind, Atomic}
 use Rattle.syntax_defs.specs.Reading.{Fault, Syntax, LeftOut, ◌>>=◌}
-use Rattle.syntax_defs.specs.Sights.{begins_with, is_empty, is_number_start}
+use Rattle.syntax_defs.specs.Sights.{begins_with, is_empty, is_name_start, is_number_start}
 
 -- names
 
@@ -22,12 +22,12 @@ word cs = take (word_count cs) cs
 abbrev pub behind_word : List ℕ → List ℕ
 behind_word cs = drop (word_count cs) cs
 
--- what begins as a name does: an ASCII letter or `_`, then word characters. An empty word is refused at its end.
+-- a word that begins as a name does. An empty one is refused at its end.
 abbrev pub is_name : List ℕ → Bool
 is_name [] = true
-is_name (c ∷ cs) = is_ascii_alphabetic c || (c == 95)
+is_name (c ∷ cs) = is_name_start c
 
--- what begins as a number without leading zero does
+-- a word that is a number without leading zero. An empty one is refused at its end.
 abbrev pub is_number : List ℕ → Bool
 is_number [] = true
 is_number (c ∷ cs) = is_number_start c && list_all is_ascii_digit cs

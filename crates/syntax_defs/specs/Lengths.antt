@@ -7,12 +7,13 @@ use Rattle.syntax_defs.specs.declared.items.Target.{Target}
 use Rattle.syntax_defs.specs.declared.items.Target.TheVariants as targets
 use Rattle.syntax_defs.specs.declared.items.Item.{Item}
 use Rattle.syntax_defs.specs.declared.items.Item.TheVariants.{One, At, Choice, Group, Repeat, Ahead, Behind, Atomic, Back}
+use Rattle.syntax_defs.specs.Limits.{most_pattern_chars, most_length}
 use Rattle.syntax_defs.specs.Reading.{Fault, LeftOut, TooLong, ◌>>=◌}
 use Rattle.syntax_defs.specs.PatternSyntax.{Parsed, parse, is_named}
 
--- A length, or none where it is open. One above 2^24 counts as open.
+-- A length, or none where it is open. One above the limit counts as open.
 abbrev pub capped : ℕ → Option ℕ
-capped n = if nat_le n 16777216 then Some n else None
+capped n = if nat_le n most_length then Some n else None
 
 abbrev pub plus : Option ℕ → Option ℕ → Option ℕ
 plus (Some m) (Some n) = capped (m + n)
@@ -121,4 +122,4 @@ read_within false text = parse text >>= tested text
 
 -- reading a pattern text
 abbrev pub read_pattern : List ℕ → Result Parsed Fault
-read_pattern text = read_within (nat_lt 65536 (length text)) text
+read_pattern text = read_within (nat_lt most_pattern_chars (length text)) text

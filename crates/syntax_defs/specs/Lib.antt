@@ -4,6 +4,7 @@ pub mod EscapeExamples
 pub mod Escapes
 pub mod Heads
 pub mod Lengths
+pub mod Limits
 pub mod PatternExamples
 pub mod PatternMeaning
 pub mod PatternSyntax

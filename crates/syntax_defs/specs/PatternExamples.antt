@@ -1,12 +1,14 @@
 -- Worked examples of reading a pattern text, each named by what it shows.
-use Rattle.std.specs.Prelude.{◌≡◌, ℕ, List, [], ◌∷◌, codes, Bool, true, false, Some, None, Result, Ok, Err, refl}
+use Rattle.std.specs.Prelude.{◌≡◌, ℕ, List, [], ◌∷◌, codes, length, replicate, Bool, true, false, Option, Some, None, Result, Ok, Err, refl}
+use Rattle.std.specs.Option.{option_map}
+use Rattle.std.specs.Result.{result_ok}
 use Rattle.pattern_defs.specs.declared.nodes.ListId.{ListId}
 use Rattle.pattern_defs.specs.declared.nodes.Anchor.TheVariants as anchors
 use Rattle.syntax_defs.specs.declared.items.Options.{Options}
 use Rattle.syntax_defs.specs.declared.items.Target.TheVariants as targets
 use Rattle.syntax_defs.specs.declared.items.Item.{Item}
 use Rattle.syntax_defs.specs.declared.items.Item.TheVariants.{One, At, Choice, Group, Repeat, Behind, Atomic, Back}
-use Rattle.syntax_defs.specs.Reading.{Fault, Syntax, LeftOut, TooDeep}
+use Rattle.syntax_defs.specs.Reading.{Fault, Syntax, LeftOut, TooDeep, TooLong}
 use Rattle.syntax_defs.specs.PatternSyntax.{Parsed}
 use Rattle.syntax_defs.specs.Lengths.{read_pattern}
 
@@ -17,8 +19,8 @@ abbrev pub options : Bool → Options
 options any_case = record { any_case = any_case; dot_all = false; spaced = false }
 
 -- a single character at a place outside of all groups
-abbrev pub one : ℕ → Item
-one at = One at (options false) 0
+abbrev pub single : ℕ → Item
+single at = One at (options false) 0
 
 -- the same within so many forms
 abbrev pub within : ℕ → ℕ → Item
@@ -27,6 +29,10 @@ within depth at = One at (options false) depth
 -- a pattern without names, whose last list is the whole
 abbrev pub parsed : List (List Item) → ℕ → ℕ → Result Parsed Fault
 parsed lists top groups = Ok (record { lists = lists; top = id top; groups = groups; names = [] })
+
+-- how many lists it has, where it can be read
+abbrev pub list_count : Result Parsed Fault → Option ℕ
+list_count read = option_map (λ p. length p.lists) (result_ok read)
 
 pub an_open_group_ends_with_the_text : read_pattern (codes "a(") ≡ Err (Syntax 2)
 unfolding Rattle.syntax_defs.specs.PatternSyntax.body_at Rattle.syntax_defs.specs.PatternSyntax.steps
@@ -68,9 +74,25 @@ pub a_greater_number_goes_first : read_pattern (codes "a{100001,1}") ≡ Err (Sy
 unfolding Rattle.syntax_defs.specs.PatternSyntax.body_at Rattle.syntax_defs.specs.PatternSyntax.steps
 a_greater_number_goes_first = refl
 
-pub eight_repeats_stand_on_one_item : read_pattern (codes "a{1}?{1}?{1}?{1}?*") ≡ Err (TooDeep 9)
+pub a_ninth_repeat_is_refused : read_pattern (codes "a{1}?{1}?{1}?{1}?*") ≡ Err (TooDeep 9)
+unfolding Rattle.syntax_defs.specs.PatternSyntax.body_at Rattle.syntax_defs.specs.PatternSyntax.steps
+a_ninth_repeat_is_refused = refl
+
+pub eight_repeats_stand_on_one_item : list_count (read_pattern (codes "a{1}?{1}?{1}?{1}?")) ≡ Some 9
 unfolding Rattle.syntax_defs.specs.PatternSyntax.body_at Rattle.syntax_defs.specs.PatternSyntax.steps
 eight_repeats_stand_on_one_item = refl
+
+pub a_hundred_and_first_group_is_refused : read_pattern (replicate 101 40) ≡ Err (TooDeep 101)
+unfolding Rattle.syntax_defs.specs.PatternSyntax.body_at Rattle.syntax_defs.specs.PatternSyntax.steps
+a_hundred_and_first_group_is_refused = refl
+
+pub a_hundred_groups_may_open : read_pattern (replicate 100 40) ≡ Err (Syntax 100)
+unfolding Rattle.syntax_defs.specs.PatternSyntax.body_at Rattle.syntax_defs.specs.PatternSyntax.steps
+a_hundred_groups_may_open = refl
+
+pub a_text_has_at_most_65536_characters : read_pattern (replicate 65537 97) ≡ Err (TooLong 65537)
+unfolding Rattle.syntax_defs.specs.PatternSyntax.body_at Rattle.syntax_defs.specs.PatternSyntax.steps
+a_text_has_at_most_65536_characters = refl
 
 pub a_comment_is_closed : read_pattern (codes "a(?#\\)") ≡ Err (Syntax 6)
 unfolding Rattle.syntax_defs.specs.PatternSyntax.body_at Rattle.syntax_defs.specs.PatternSyntax.steps
@@ -104,11 +126,11 @@ pub inner_alternatives_have_equal_lengths : read_pattern (codes "(?<=(?:a|bc))x"
 unfolding Rattle.syntax_defs.specs.PatternSyntax.body_at Rattle.syntax_defs.specs.PatternSyntax.steps
 inner_alternatives_have_equal_lengths = refl
 
-pub a_lone_brace_is_itself : read_pattern (codes "{") ≡ parsed ((one 0 ∷ []) ∷ []) 0 0
+pub a_lone_brace_is_itself : read_pattern (codes "{") ≡ parsed ((single 0 ∷ []) ∷ []) 0 0
 unfolding Rattle.syntax_defs.specs.PatternSyntax.body_at Rattle.syntax_defs.specs.PatternSyntax.steps
 a_lone_brace_is_itself = refl
 
-pub alternatives_are_lists : read_pattern (codes "a|b") ≡ parsed ((one 0 ∷ []) ∷ (one 2 ∷ []) ∷ (Choice (id 0 ∷ id 1 ∷ []) ∷ []) ∷ []) 2 0
+pub alternatives_are_lists : read_pattern (codes "a|b") ≡ parsed ((single 0 ∷ []) ∷ (single 2 ∷ []) ∷ (Choice (id 0 ∷ id 1 ∷ []) ∷ []) ∷ []) 2 0
 unfolding Rattle.syntax_defs.specs.PatternSyntax.body_at Rattle.syntax_defs.specs.PatternSyntax.steps
 alternatives_are_lists = refl
 
@@ -116,7 +138,7 @@ pub an_empty_pattern_is_an_empty_list : read_pattern (codes "") ≡ parsed ([] �
 unfolding Rattle.syntax_defs.specs.PatternSyntax.body_at Rattle.syntax_defs.specs.PatternSyntax.steps
 an_empty_pattern_is_an_empty_list = refl
 
-pub a_plain_group_is_no_node : read_pattern (codes "a(?:bc)") ≡ parsed ((one 0 ∷ within 1 4 ∷ within 1 5 ∷ []) ∷ []) 0 0
+pub a_plain_group_is_no_node : read_pattern (codes "a(?:bc)") ≡ parsed ((single 0 ∷ within 1 4 ∷ within 1 5 ∷ []) ∷ []) 0 0
 unfolding Rattle.syntax_defs.specs.PatternSyntax.body_at Rattle.syntax_defs.specs.PatternSyntax.steps
 a_plain_group_is_no_node = refl
 
@@ -124,27 +146,47 @@ pub a_plain_group_is_repeated_whole : read_pattern (codes "(?:bc)*") ≡ parsed 
 unfolding Rattle.syntax_defs.specs.PatternSyntax.body_at Rattle.syntax_defs.specs.PatternSyntax.steps
 a_plain_group_is_repeated_whole = refl
 
-pub a_repeat_takes_the_last_item : read_pattern (codes "ab*") ≡ parsed ((one 1 ∷ []) ∷ (one 0 ∷ Repeat (id 0) 0 None true ∷ []) ∷ []) 1 0
+pub a_repeat_takes_the_last_item : read_pattern (codes "ab*") ≡ parsed ((single 1 ∷ []) ∷ (single 0 ∷ Repeat (id 0) 0 None true ∷ []) ∷ []) 1 0
 unfolding Rattle.syntax_defs.specs.PatternSyntax.body_at Rattle.syntax_defs.specs.PatternSyntax.steps
 a_repeat_takes_the_last_item = refl
 
-pub a_comment_is_passed_over : read_pattern (codes "a(?#c)*") ≡ parsed ((one 0 ∷ []) ∷ (Repeat (id 0) 0 None true ∷ []) ∷ []) 1 0
+pub a_comment_is_passed_over : read_pattern (codes "a(?#c)*") ≡ parsed ((single 0 ∷ []) ∷ (Repeat (id 0) 0 None true ∷ []) ∷ []) 1 0
 unfolding Rattle.syntax_defs.specs.PatternSyntax.body_at Rattle.syntax_defs.specs.PatternSyntax.steps
 a_comment_is_passed_over = refl
 
-pub a_possessive_repeat_is_atomic : read_pattern (codes "a*+") ≡ parsed ((one 0 ∷ []) ∷ (Repeat (id 0) 0 None true ∷ []) ∷ (Atomic (id 1) ∷ []) ∷ []) 2 0
+pub a_possessive_repeat_is_atomic : read_pattern (codes "a*+") ≡ parsed ((single 0 ∷ []) ∷ (Repeat (id 0) 0 None true ∷ []) ∷ (Atomic (id 1) ∷ []) ∷ []) 2 0
 unfolding Rattle.syntax_defs.specs.PatternSyntax.body_at Rattle.syntax_defs.specs.PatternSyntax.steps
 a_possessive_repeat_is_atomic = refl
 
-pub a_lazy_repeat : read_pattern (codes "a{1,2}?") ≡ parsed ((one 0 ∷ []) ∷ (Repeat (id 0) 1 (Some 2) false ∷ []) ∷ []) 1 0
+pub an_interval_may_begin_with_a_comma : read_pattern (codes "a{,2}") ≡ parsed ((single 0 ∷ []) ∷ (Repeat (id 0) 0 (Some 2) true ∷ []) ∷ []) 1 0
+unfolding Rattle.syntax_defs.specs.PatternSyntax.body_at Rattle.syntax_defs.specs.PatternSyntax.steps
+an_interval_may_begin_with_a_comma = refl
+
+pub a_lazy_repeat : read_pattern (codes "a{1,2}?") ≡ parsed ((single 0 ∷ []) ∷ (Repeat (id 0) 1 (Some 2) false ∷ []) ∷ []) 1 0
 unfolding Rattle.syntax_defs.specs.PatternSyntax.body_at Rattle.syntax_defs.specs.PatternSyntax.steps
 a_lazy_repeat = refl
 
-pub a_count_is_not_lazy_but_optional : read_pattern (codes "a{2}?") ≡ parsed ((one 0 ∷ []) ∷ (Repeat (id 0) 2 (Some 2) true ∷ []) ∷ (Repeat (id 1) 0 (Some 1) true ∷ []) ∷ []) 2 0
+pub a_count_is_not_lazy_but_optional : read_pattern (codes "a{2}?") ≡ parsed ((single 0 ∷ []) ∷ (Repeat (id 0) 2 (Some 2) true ∷ []) ∷ (Repeat (id 1) 0 (Some 1) true ∷ []) ∷ []) 2 0
 unfolding Rattle.syntax_defs.specs.PatternSyntax.body_at Rattle.syntax_defs.specs.PatternSyntax.steps
 a_count_is_not_lazy_but_optional = refl
 
-pub options_reach_to_the_end_of_their_group : read_pattern (codes "((?i)a|b)c") ≡ parsed ((One 5 (options true) 2 ∷ []) ∷ (One 7 (options true) 2 ∷ []) ∷ (Choice (id 0 ∷ id 1 ∷ []) ∷ []) ∷ (Group 1 (id 2) ∷ one 9 ∷ []) ∷ []) 3 1
+pub options_hold_for_all_alternatives_behind_them : read_pattern (codes "(?<=(?i)a|bc)x") ≡ Err (LeftOut 0)
+unfolding Rattle.syntax_defs.specs.PatternSyntax.body_at Rattle.syntax_defs.specs.PatternSyntax.steps
+options_hold_for_all_alternatives_behind_them = refl
+
+pub no_option_need_change : read_pattern (codes "(?-)a") ≡ parsed ((within 1 4 ∷ []) ∷ []) 0 0
+unfolding Rattle.syntax_defs.specs.PatternSyntax.body_at Rattle.syntax_defs.specs.PatternSyntax.steps
+no_option_need_change = refl
+
+pub options_have_one_minus : read_pattern (codes "(?i-m-x:a)") ≡ Err (LeftOut 0)
+unfolding Rattle.syntax_defs.specs.PatternSyntax.body_at Rattle.syntax_defs.specs.PatternSyntax.steps
+options_have_one_minus = refl
+
+pub with_m_the_dot_takes_all : read_pattern (codes "(?m).") ≡ parsed ((One 4 (record { any_case = false; dot_all = true; spaced = false }) 1 ∷ []) ∷ []) 0 0
+unfolding Rattle.syntax_defs.specs.PatternSyntax.body_at Rattle.syntax_defs.specs.PatternSyntax.steps
+with_m_the_dot_takes_all = refl
+
+pub options_reach_to_the_end_of_their_group : read_pattern (codes "((?i)a|b)c") ≡ parsed ((One 5 (options true) 2 ∷ []) ∷ (One 7 (options true) 2 ∷ []) ∷ (Choice (id 0 ∷ id 1 ∷ []) ∷ []) ∷ (Group 1 (id 2) ∷ single 9 ∷ []) ∷ []) 3 1
 unfolding Rattle.syntax_defs.specs.PatternSyntax.body_at Rattle.syntax_defs.specs.PatternSyntax.steps
 options_reach_to_the_end_of_their_group = refl
 
@@ -152,13 +194,21 @@ pub groups_are_numbered_by_their_opening : read_pattern (codes "((a)b)") ≡ par
 unfolding Rattle.syntax_defs.specs.PatternSyntax.body_at Rattle.syntax_defs.specs.PatternSyntax.steps
 groups_are_numbered_by_their_opening = refl
 
-pub a_lookbehind_has_arms : read_pattern (codes "(?<=ab|c)x") ≡ parsed ((within 1 4 ∷ within 1 5 ∷ []) ∷ (within 1 7 ∷ []) ∷ (Behind 0 (id 0 ∷ id 1 ∷ []) true ∷ one 9 ∷ []) ∷ []) 2 0
+pub a_lookbehind_has_arms : read_pattern (codes "(?<=ab|c)x") ≡ parsed ((within 1 4 ∷ within 1 5 ∷ []) ∷ (within 1 7 ∷ []) ∷ (Behind 0 (id 0 ∷ id 1 ∷ []) true ∷ single 9 ∷ []) ∷ []) 2 0
 unfolding Rattle.syntax_defs.specs.PatternSyntax.body_at Rattle.syntax_defs.specs.PatternSyntax.steps
 a_lookbehind_has_arms = refl
 
 pub a_name_has_the_number_of_its_group : read_pattern (codes "(?<a>x)\\k<a>") ≡ Ok (record { lists = (within 1 5 ∷ []) ∷ (Group 1 (id 0) ∷ Back 7 (targets.Name (record { from = 10; to = 11 })) false ∷ []) ∷ []; top = id 1; groups = 1; names = record { name = record { from = 3; to = 4 }; number = 1 } ∷ [] })
 unfolding Rattle.syntax_defs.specs.PatternSyntax.body_at Rattle.syntax_defs.specs.PatternSyntax.steps Rattle.char_sets.specs.Named.is_word Rattle.ucd_category.specs.GeneralCategory.general_category Rattle.ucd_table.specs.Rows.value_in Rattle.ucd_category.specs.GeneralCategoryRows.general_category_rows
 a_name_has_the_number_of_its_group = refl
+
+pub names_may_stand_in_quotes : read_pattern (codes "(?'a'x)\\k'a'") ≡ Ok (record { lists = (within 1 5 ∷ []) ∷ (Group 1 (id 0) ∷ Back 7 (targets.Name (record { from = 10; to = 11 })) false ∷ []) ∷ []; top = id 1; groups = 1; names = record { name = record { from = 3; to = 4 }; number = 1 } ∷ [] })
+unfolding Rattle.syntax_defs.specs.PatternSyntax.body_at Rattle.syntax_defs.specs.PatternSyntax.steps Rattle.char_sets.specs.Named.is_word Rattle.ucd_category.specs.GeneralCategory.general_category Rattle.ucd_table.specs.Rows.value_in Rattle.ucd_category.specs.GeneralCategoryRows.general_category_rows
+names_may_stand_in_quotes = refl
+
+pub a_number_has_no_leading_zero : read_pattern (codes "(a)\\k<01>") ≡ Err (Syntax 3)
+unfolding Rattle.syntax_defs.specs.PatternSyntax.body_at Rattle.syntax_defs.specs.PatternSyntax.steps Rattle.char_sets.specs.Named.is_word Rattle.ucd_category.specs.GeneralCategory.general_category Rattle.ucd_table.specs.Rows.value_in Rattle.ucd_category.specs.GeneralCategoryRows.general_category_rows
+a_number_has_no_leading_zero = refl
 
 pub blanks_are_passed_over_with_x : read_pattern (codes "(?x)a #b") ≡ parsed ((One 4 (record { any_case = false; dot_all = false; spaced = true }) 1 ∷ []) ∷ []) 0 0
 unfolding Rattle.syntax_defs.specs.PatternSyntax.body_at Rattle.syntax_defs.specs.PatternSyntax.steps

@@ -12,7 +12,7 @@ use Rattle.syntax_defs.specs.declared.items.Item.TheVariants.{One, At, Choice, G
 use Rattle.syntax_defs.specs.Reading.{Fault, Read}
 use Rattle.syntax_defs.specs.Singles.{single_at}
 use Rattle.syntax_defs.specs.PatternSyntax.{Parsed}
-use Rattle.syntax_defs.specs.Lengths.{length_of, lengths_of, group_of, read_pattern}
+use Rattle.syntax_defs.specs.Lengths.{length_of, lengths_of, group_of}
 
 -- a set with the characters of the single item that is read
 abbrev pub IsSetRead : List CharRange → Result (Read (ℕ → Bool)) Fault → Type 0
@@ -57,7 +57,3 @@ pub record StandsFor (text : List ℕ) (tree : Tree) (parsed : Parsed) : Type 0 
 abbrev pub IsReadAs : List ℕ → Tree → Result Parsed Fault → Type 0
 IsReadAs text tree (Ok parsed) = StandsFor text tree parsed
 IsReadAs text tree (Err fault) = ⊥
-
--- the pattern is what the text is read as
-abbrev pub IsPatternOf : List ℕ → Tree → Type 0
-IsPatternOf text tree = IsReadAs text tree (read_pattern text)

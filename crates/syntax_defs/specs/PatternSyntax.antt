@@ -18,6 +18,7 @@ use Rattle.syntax_defs.specs.declared.items.Sight.{Sight}
 use Rattle.syntax_defs.specs.declared.items.Sight.TheVariants.{End, Bar, Close, Blank, Remark, Comment, Repeat, Open, Edge, Number, Reference, Single}
 use Rattle.syntax_defs.specs.declared.items.Head.{Head}
 use Rattle.syntax_defs.specs.declared.items.Head.TheVariants.{Numbered, Plain, Rest, Ahead, Behind, Atomic}
+use Rattle.syntax_defs.specs.Limits.{most_levels, most_repeats, most_count}
 use Rattle.syntax_defs.specs.Reading.{Fault, Syntax, LeftOut, TooDeep, ◌>>=◌}
 use Rattle.syntax_defs.specs.Sights.{digits, digit_count, number_of, begins_with, sight_at}
 use Rattle.syntax_defs.specs.Heads.{word, word_at, is_name_or_number, is_number, head_at, inside}
@@ -155,8 +156,8 @@ signed false true bounds count b s = possessive_repeat bounds count b s
 
 abbrev pub repeat_on : Bounds → List ℕ → ℕ → Body → Seen → Result Stepped Fault
 repeat_on bounds behind count b s =
-    if nat_lt 100000 bounds.least || is_above 100000 bounds.most then Err (Syntax s.place)
-    else if nat_le 8 count then Err (TooDeep 9)
+    if nat_lt most_count bounds.least || is_above most_count bounds.most then Err (Syntax s.place)
+    else if nat_le most_repeats count then Err (TooDeep (most_repeats + 1))
     else if is_below bounds.most bounds.least then Err (LeftOut s.place)
     else signed (is_lazy bounds.form behind) (is_possessive bounds.form behind) bounds count b s
 
@@ -275,7 +276,7 @@ step_by go levels options Open b s = adds b (group_at go options s)
 step_by go levels options (Edge anchor size) b s = add b (items.At anchor ∷ [], past size s)
 step_by go levels options Number b s = add b (number_item options s)
 step_by go levels options Reference b s = adds b (reference_item options (drop 2 (rest_of s)) s)
-step_by go levels options Single b s = adds b (single_item options (100 - levels) s)
+step_by go levels options Single b s = adds b (single_item options (most_levels - levels) s)
 
 abbrev pub step : Going → ℕ → Options → Body → Seen → Result Stepped Fault
 step go levels options b s = step_by go levels options (sight_at options (rest_of s)) b s
@@ -291,7 +292,7 @@ steps go (suc count) levels options b s = step go levels options b s >>= λ r. a
 
 -- The body of a form or of the whole, which takes one level; in it forms may open in what is left, one in another.
 unfoldable pub body_at : ℕ → Going
-body_at zero options s = Err (TooDeep 101)
+body_at zero options s = Err (TooDeep (most_levels + 1))
 body_at (suc levels) options s = steps (body_at levels) (length s.text + 1) levels options empty_body s
 
 -- A text that is read: its lists, the list that is the whole, and its groups.
@@ -316,4 +317,4 @@ abbrev pub start : List ℕ → Seen
 start text = record { text = text; place = 0; lists = []; groups = 0; names = [] }
 
 abbrev pub parse : List ℕ → Result Parsed Fault
-parse text = body_at 101 no_options (start text) >>= λ read. whole_by (rest_of read.1) read.0 read.1
+parse text = body_at (most_levels + 1) no_options (start text) >>= λ read. whole_by (rest_of read.1) read.0 read.1

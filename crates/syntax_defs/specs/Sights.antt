@@ -2,7 +2,7 @@
 -- with Ruby syntax.
 use Rattle.std.specs.Prelude.{ℕ, ◌+◌, ◌-◌, ◌*◌, ◌==◌, min, List, [], ◌∷◌, length, drop, take, fold, Bool, true, false, ◌&&◌, ◌||◌, not, if◌then◌else◌, Option, Some, None}
 use Rattle.std.specs.List.{prefix_len}
-use Rattle.std.specs.Char.{is_ascii_digit}
+use Rattle.std.specs.Char.{is_ascii_alphabetic, is_ascii_digit}
 use Rattle.pattern_defs.specs.declared.nodes.Anchor.{Anchor}
 use Rattle.pattern_defs.specs.declared.nodes.Anchor.TheVariants.{LineStart, LineEnd, First, Mark, LastEnd, WordEdge, NoWordEdge}
 use Rattle.pattern_defs.specs.declared.nodes.Anchor.TheVariants as anchors
@@ -77,6 +77,10 @@ paren_sight cs = if begins_with 63 cs && begins_with 35 (drop 1 cs) then Comment
 
 abbrev pub edge : Anchor → Sight
 edge anchor = Edge anchor 2
+
+-- an ASCII letter or `_`
+abbrev pub is_name_start : ℕ → Bool
+is_name_start c = is_ascii_alphabetic c || (c == 95)
 
 -- a digit other than 0
 abbrev pub is_number_start : ℕ → Bool

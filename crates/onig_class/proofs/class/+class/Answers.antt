@@ -3,12 +3,12 @@ use Rattle.std.proofs.lemmas.List.{drop-drop}
 use Rattle.std.proofs.lemmas.Result.{err_from_is_err_and}
 use Rattle.syntax_defs.specs.declared.class_part.ClassPart.TheVariants.{End, Close, And, Class, Member}
 use Rattle.syntax_defs.specs.Classes.{together, next_side, with_member}
-use Rattle.onig_class.proofs.ClassLemmas.{turn, fails_bind, member_of, placed_gives, signed_gives, no_levels, some_levels}
+use Rattle.onig_class.proofs.ClassLemmas.{turn, fails_bind, member_of, placed_gives, complement_gives, no_levels, some_levels}
 use Rattle.onig_class.proofs.class.+class.Goals as goal
 
 pub class_within-returns-then-levels-eq0-clause-value :
     goal.class_within-returns-then-levels-eq0-clause-value
-class_within-returns-then-levels-eq0-clause-value t c = no_levels _ _ _ _ c.if-levels-eq0.true
+class_within-returns-then-levels-eq0-clause-value t c = rw c.from.ensures (no_levels _ _ _ _ c.if-levels-eq0.true)
 
 pub class_within-returns-in_err-set-clause-value :
     goal.class_within-returns-in_err-set-clause-value
@@ -20,7 +20,7 @@ class_within-returns-in_err-set-clause-value t c =
 pub class_within-returns-clause-value : goal.class_within-returns-clause-value
 class_within-returns-clause-value t c =
     let is = some_levels c.args.levels c.args.at c.opening-negated.result.1 c.args.fold c.opening-negated.result.0 c.args.text.now c.if-levels-eq0.false c.opening-negated.ensures.negated c.opening-negated.ensures.start in
-    rw is (signed_gives _ _ _ _ _ _ _ c.in_ok-set.ensures.value c.signed.ensures c.placed.ensures.found c.placed.ensures.memory)
+    rw is (complement_gives _ _ _ _ _ _ _ c.in_ok-set.ensures.value c.complement_if.ensures c.placed.ensures.found c.placed.ensures.memory)
 
 pub members-returns-in-End-clause-value : goal.members-returns-in-End-clause-value
 members-returns-in-End-clause-value t c =

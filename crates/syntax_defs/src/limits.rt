@@ -1,0 +1,14 @@
+/// The most characters of a pattern text.
+pub const MOST_PATTERN_CHARS: usize = 65_536;
+
+/// The most groups and classes, one in another.
+pub const MOST_LEVELS: u32 = 100;
+
+/// The most repeats on one item.
+pub const MOST_REPEATS: u32 = 8;
+
+/// The greatest number of an interval.
+pub const MOST_COUNT: u32 = 100_000;
+
+/// How far a lookbehind may see, in characters.
+pub const MOST_LENGTH: u32 = 16_777_216;
