@@ -26,6 +26,12 @@ pub fn run<F: Files, S: Source, K: Sink, L: Ledger, M: Ledger>(
     steps: &mut Steps<L>,
     marks: &mut Steps<M>,
 ) -> Status
+    // All that is told of each status: what follows are its parts, each in its own words.
+    ensures ends { IsRun (F.contents files.old) (F.faults files.old) (F.faults files.new)
+        (outside (S.left script.old) (K.held sink.old) (S.faults script.old) (K.faults sink.old))
+        (outside (S.left script.new) (K.held sink.new) (S.faults script.new) (K.faults sink.new))
+        (request_of (map string_bytes words.now)) result }
+
     // The headline: what is written is, line by line, the reply that pairing the whole text anew gives.
     ensures done { result ≡ Status.Done → IfSome (request_of (map string_bytes words.now)) (AnswersAll (F.contents files.old)
         (outside (S.left script.old) (K.held sink.old) (S.faults script.old) (K.faults sink.old))

@@ -15,6 +15,10 @@ loop-n-preserved c =
       count = ap length c.in_ok-push.ensures.ok ∙ length-append c.loop-n.lines (c.in_ok-marks.field-0 ∷ []) ∙ ap (λ n. n + 1) c.loop-n.invariant.count;
     }
 
+pub returns-clause-lines : goal.returns-clause-lines
+returns-clause-lines c =
+    lines_all c.args.brackets.now c.args.long c.loop-n.n (lines_of c.args.text.now) c.loop-n.lines (omega arith) c.loop-n.invariant.lines
+
 pub returns-clause-marks : goal.returns-clause-marks
 returns-clause-marks c =
     let whole = lines_all c.args.brackets.now c.args.long c.loop-n.n (lines_of c.args.text.now) c.loop-n.lines (omega arith) c.loop-n.invariant.lines in
