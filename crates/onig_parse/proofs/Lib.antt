@@ -2,3 +2,9 @@ pub mod ListLemmas
 pub mod TextLemmas
 pub mod BodySteps
 pub mod FitsLemmas
+pub mod ReadingLemmas
+pub mod FormedLists
+pub mod FormedParts
+pub mod FormedGroups
+pub mod FormedSteps
+pub mod FormedTexts

@@ -8,7 +8,7 @@ use Rattle.pattern_defs.specs.declared.nodes.PatNode.{PatNode}
 use Rattle.pattern_defs.specs.declared.nodes.PatNode.TheVariants.{One, At, Choice, Group, Repeat, Ahead, Behind, Atomic, Back}
 use Rattle.pattern_defs.specs.Patterns.{NodeLists, AllIds, RiseFrom, AllArms, IsNode, AreNodes, AreLists}
 
-AllIds-widen : (a b : ℕ) (ids : List ListId) → a ≤ b → AllIds a ids → AllIds b ids
+pub AllIds-widen : (a b : ℕ) (ids : List ListId) → a ≤ b → AllIds a ids → AllIds b ids
 AllIds-widen a b [] h all = tt
 AllIds-widen a b (id ∷ ids) h all = (let lt : id.0 < a = all.0 in omega arith, AllIds-widen a b ids h all.1)
 
