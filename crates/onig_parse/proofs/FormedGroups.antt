@@ -10,7 +10,7 @@ use Rattle.syntax_defs.specs.declared.items.Head.{Head}
 use Rattle.syntax_defs.specs.declared.items.Head.TheVariants.{Numbered, Plain, Rest, Ahead, Behind, Atomic}
 use Rattle.syntax_defs.specs.Reading.{LeftOut}
 use Rattle.syntax_defs.specs.Heads.{head_at, inside}
-use Rattle.syntax_defs.specs.PatternSyntax.{Seen, Body, Going, at_place, rest_of, with_list, next_id, open_items, items_of, body_items, body_list, is_named, with_group, opened, closed_by, closed, made, group_at}
+use Rattle.syntax_defs.specs.PatternSyntax.{Seen, Body, BodyReader, at_place, rest_of, with_list, next_id, open_items, items_of, body_items, body_list, is_named, with_group, opened, closed_by, closed, made, group_at}
 use Rattle.onig_parse.proofs.ReadingLemmas.{IfOk-bind, IfOk-any, IfOk-else}
 use Rattle.onig_parse.proofs.FormedLists.{AreItemLists-raise, AreNames-raise, AreNames-push}
 use Rattle.onig_parse.proofs.FormedParts.{FormedSeen, Grows, FormedBody, FormedPart, FormedItems, FormedList, grows_none, grows_both, FormedItems-before, at_place-seen, at_place-part, with_list-seen, with_list-grows, next_id-below, ids_more, ids_rise, open_items-formed}
@@ -126,7 +126,7 @@ made-formed text Atomic number begin b s seen body counted within =
     let list = body_list-formed text b s seen body in record { seen = list.seen; formed = (list.below, tt); grows = list.grows }
 
 -- what a reader of bodies gives is well formed
-abbrev pub KeepsForm : List ℕ → Going → Type 0
+abbrev pub KeepsForm : List ℕ → BodyReader → Type 0
 KeepsForm text go = (options : Options) (s : Seen) → FormedSeen text s → IfOk (go options s) (λ r. FormedPart text s r.0 r.1)
 
 ended-formed : (text : List ℕ) (head : Head) (s begun : Seen) (b : Body) (ended : Seen) → FormedHead text head s begun → FormedPart text begun b ended → FormedItems text s (made head begun.groups s.place b ended).0 (made head begun.groups s.place b ended).1
@@ -135,7 +135,7 @@ ended-formed text head s begun b ended first part =
     (grows_both s begun ended first.grows part.grows)
     (made-formed text head begun.groups s.place b ended part.seen part.body first.counted part.grows.groups)
 
-pub group_at-formed : (text : List ℕ) (go : Going) (options : Options) (s : Seen) → KeepsForm text go → FormedSeen text s → IfOk (group_at go options s) (λ r. FormedItems text s r.0 r.1)
+pub group_at-formed : (text : List ℕ) (go : BodyReader) (options : Options) (s : Seen) → KeepsForm text go → FormedSeen text s → IfOk (group_at go options s) (λ r. FormedItems text s r.0 r.1)
 group_at-formed text go options s keeps seen =
     IfOk-bind (λ _. Unit {0}) (λ r. FormedItems text s r.0 r.1) (head_at options s.place (length s.text) (drop 1 (rest_of s))) _ (IfOk-any _) λ head _.
     IfOk-bind (FormedHead text head.0 s) (λ r. FormedItems text s r.0 r.1) (opened head.0 s.place (at_place head.1 s)) _

@@ -12,7 +12,7 @@ use Rattle.syntax_defs.specs.declared.items.Sight.TheVariants.{End, Bar, Close, 
 use Rattle.syntax_defs.specs.Reading.{Fault, Syntax, LeftOut, TooDeep, Read}
 use Rattle.syntax_defs.specs.Heads.{word_at, is_name_or_number}
 use Rattle.syntax_defs.specs.Singles.{single_at}
-use Rattle.syntax_defs.specs.PatternSyntax.{Seen, Body, Stepped, Going, rest_of, with_list, next_id, add, adds, is_above, is_below, is_lazy, is_possessive, plain_repeat, atomic_of, signed, repeat_on, repeat_at, behind_comment, comment_length, quoted_item, reference_item, group_at, single_item, step_by}
+use Rattle.syntax_defs.specs.PatternSyntax.{Seen, Body, Stepped, BodyReader, rest_of, with_list, next_id, add, adds, is_above, is_below, is_lazy, is_possessive, plain_repeat, atomic_of, signed, repeat_on, repeat_at, behind_comment, comment_length, quoted_item, reference_item, group_at, single_item, step_by}
 use Rattle.onig_parse.specs.Formed.{IsRead}
 use Rattle.onig_parse.proofs.FormedParts.{FormedSeen, FormedPart, FormedItems, at_place-part, with_list-part, next_id-below, last-part, with_item-part, after_bar-part, one_here}
 use Rattle.onig_parse.proofs.FormedGroups.{KeepsForm, group_at-formed}
@@ -95,7 +95,7 @@ single_item-formed text options depth s seen within =
 
 -- one step
 
-pub step_by-formed : (text : List ℕ) (go : Going) (levels : ℕ) (options : Options) (begun : Seen) (sight : Sight) (b : Body) (s : Seen) → KeepsForm text go → FormedPart text begun b s → IfOk (step_by go levels options sight b s) (FormedStep text begun)
+pub step_by-formed : (text : List ℕ) (go : BodyReader) (levels : ℕ) (options : Options) (begun : Seen) (sight : Sight) (b : Body) (s : Seen) → KeepsForm text go → FormedPart text begun b s → IfOk (step_by go levels options sight b s) (FormedStep text begun)
 step_by-formed text go levels options begun End b s keeps part = part
 step_by-formed text go levels options begun Close b s keeps part = part
 step_by-formed text go levels options begun Bar b s keeps part = at_place-part text begun _ _ _ (after_bar-part text begun b s part)

@@ -3,14 +3,14 @@ use Rattle.std.proofs.Common.{◌≡◌, ℕ, zero, suc, ◌+◌, List, [], ◌�
 use Rattle.std.proofs.lemmas.Result.{IfOk-at_ok}
 use Rattle.syntax_defs.specs.declared.items.Options.{Options}
 use Rattle.syntax_defs.specs.Sights.{sight_at}
-use Rattle.syntax_defs.specs.PatternSyntax.{Seen, Body, Going, Parsed, rest_of, empty_body, step, after_step, steps, body_at, whole_by, no_options, start, parse}
+use Rattle.syntax_defs.specs.PatternSyntax.{Seen, Body, BodyReader, Parsed, rest_of, empty_body, step, after_step, steps, body_at, whole_by, no_options, start, parse}
 use Rattle.onig_parse.specs.Formed.{IsFormed}
 use Rattle.onig_parse.proofs.FormedParts.{FormedPart, empty_part}
 use Rattle.onig_parse.proofs.FormedGroups.{KeepsForm, body_list-formed}
 use Rattle.onig_parse.proofs.ReadingLemmas.{IfOk-bind}
 use Rattle.onig_parse.proofs.FormedSteps.{FormedStep, step_by-formed}
 
-pub steps-formed : (text : List ℕ) (go : Going) (count levels : ℕ) (options : Options) (begun : Seen) (b : Body) (s : Seen) → KeepsForm text go → FormedPart text begun b s → IfOk (steps go count levels options b s) (λ r. FormedPart text begun r.0 r.1)
+pub steps-formed : (text : List ℕ) (go : BodyReader) (count levels : ℕ) (options : Options) (begun : Seen) (b : Body) (s : Seen) → KeepsForm text go → FormedPart text begun b s → IfOk (steps go count levels options b s) (λ r. FormedPart text begun r.0 r.1)
 unfolding steps
 steps-formed text go zero levels options begun b s keeps part = tt
 steps-formed text go (suc count) levels options begun b s keeps part =

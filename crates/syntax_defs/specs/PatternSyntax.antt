@@ -42,8 +42,8 @@ pub record Body : Type 0 where
   pub repeats : Option ℕ
 
 -- reading the body of a group, up to its `)` or the end of the text
-abbrev pub Going : Type 0
-Going = Options → Seen → Result (Body × Seen) Fault
+abbrev pub BodyReader : Type 0
+BodyReader = Options → Seen → Result (Body × Seen) Fault
 
 -- what is read next, with the body and how far the text is read after it: whether the body goes on
 pub record Stepped : Type 0 where
@@ -236,19 +236,19 @@ abbrev pub closed : Head → Seen → Result Seen Fault
 closed (Rest options) s = Ok s
 closed _ s = closed_by (rest_of s) s
 
-abbrev pub one : (ListId → Item) → (ListId × Seen) → (List Item × Seen)
-one form r = (form r.0 ∷ [], r.1)
+abbrev pub one_item : (ListId → Item) → (ListId × Seen) → (List Item × Seen)
+one_item form r = (form r.0 ∷ [], r.1)
 
 -- the items of a form that has ended: its head, the number of groups when it began, its place and its body
 abbrev pub made : Head → (number begin : ℕ) → Body → Seen → (List Item × Seen)
-made (Numbered name) number begin b s = one (items.Group number) (body_list b s)
+made (Numbered name) number begin b s = one_item (items.Group number) (body_list b s)
 made (Plain options) number begin b s = body_items b s
 made (Rest options) number begin b s = body_items b s
-made (Ahead wanted) number begin b s = one (λ id. items.Ahead id wanted) (body_list b s)
+made (Ahead wanted) number begin b s = one_item (λ id. items.Ahead id wanted) (body_list b s)
 made (Behind wanted) number begin b s = (items.Behind begin (b.ended ++ next_id s ∷ []) wanted ∷ [], with_list (open_items b) s)
-made Atomic number begin b s = one items.Atomic (body_list b s)
+made Atomic number begin b s = one_item items.Atomic (body_list b s)
 
-abbrev pub group_at : Going → Options → Seen → Result (List Item × Seen) Fault
+abbrev pub group_at : BodyReader → Options → Seen → Result (List Item × Seen) Fault
 group_at go options s =
     head_at options s.place (length s.text) (drop 1 (rest_of s))
     >>= λ head. opened head.0 s.place (at_place head.1 s)
@@ -264,7 +264,7 @@ single_item options depth s =
     >>= λ read. Ok (items.One s.place options depth ∷ [], at_place read.place s)
 
 -- one step, by what stands here, where so many forms may open within it
-abbrev pub step_by : Going → ℕ → Options → Sight → Body → Seen → Result Stepped Fault
+abbrev pub step_by : BodyReader → ℕ → Options → Sight → Body → Seen → Result Stepped Fault
 step_by go levels options End b s = stop b s
 step_by go levels options Close b s = stop b s
 step_by go levels options Bar b s = go_on (after_bar b s) (past 1 (with_list (open_items b) s))
@@ -278,7 +278,7 @@ step_by go levels options Number b s = add b (number_item options s)
 step_by go levels options Reference b s = adds b (reference_item options (drop 2 (rest_of s)) s)
 step_by go levels options Single b s = adds b (single_item options (most_levels - levels) s)
 
-abbrev pub step : Going → ℕ → Options → Body → Seen → Result Stepped Fault
+abbrev pub step : BodyReader → ℕ → Options → Body → Seen → Result Stepped Fault
 step go levels options b s = step_by go levels options (sight_at options (rest_of s)) b s
 
 abbrev pub after_step : (Body → Seen → Result (Body × Seen) Fault) → Bool → Body → Seen → Result (Body × Seen) Fault
@@ -286,12 +286,12 @@ after_step next true b s = next b s
 after_step next false b s = Ok (b, s)
 
 -- Steps up to the body's end. The first number bounds how many; there are fewer, since each takes a character.
-unfoldable pub steps : Going → ℕ → ℕ → Options → Body → Seen → Result (Body × Seen) Fault
+unfoldable pub steps : BodyReader → ℕ → ℕ → Options → Body → Seen → Result (Body × Seen) Fault
 steps go zero levels options b s = Err (Syntax s.place)
 steps go (suc count) levels options b s = step go levels options b s >>= λ r. after_step (steps go count levels options) r.more r.body r.seen
 
 -- The body of a form or of the whole, which takes one level; in it forms may open in what is left, one in another.
-unfoldable pub body_at : ℕ → Going
+unfoldable pub body_at : ℕ → BodyReader
 body_at zero options s = Err (TooDeep (most_levels + 1))
 body_at (suc levels) options s = steps (body_at levels) (length s.text + 1) levels options empty_body s
 
