@@ -225,7 +225,8 @@ fn plain_patterns_answer_as_their_table_says(rt: HostRuntime) -> Result<(), Fail
 }
 
 // The same of lookaround, atomic groups, back references and anchors. A back reference inside its own group answers
-// as in Perl.
+// as in Perl. Repeats of anchors and looks, and lookbehinds at the limit of their length, stand last: these answers
+// are this project's own.
 const NESTED: &str = "\
     (?=a)a¦a¦0¦1000¦A-¦0-1¶\
     (?=b)a¦a¦0¦1000¦A-¦miss¶\
@@ -318,13 +319,22 @@ const NESTED: &str = "\
     \\B¦\u{e9}\u{e8}¦1¦1000¦--¦1-1¶\
     (?<!(a))b¦cb¦1¦1000¦--¦1-2 .¶\
     (?<!(a))b¦ab¦1¦1000¦--¦miss¶\
+    ^*a¦a¦0¦1000¦A-¦0-1¶\
+    (?=a)*a¦a¦0¦1000¦A-¦0-1¶\
+    (?<=(?>a))x¦ax¦1¦1000¦A-¦1-2¶\
+    (?<=(a)\\1)x¦aax¦2¦1000¦A-¦LeftOut { at: 0 }¶\
+    (?<=(?:a*){0})x¦x¦0¦1000¦A-¦LeftOut { at: 0 }¶\
+    (?<=(?:a{4096}){4096})x¦x¦0¦1000¦A-¦miss¶\
+    (?<=(?:a{4096}){4096}a)x¦x¦0¦1000¦A-¦LeftOut { at: 0 }¶\
+    (a)\\10¦aa¦0¦1000¦A-¦LeftOut { at: 3 }¶\
+    (a)\\k'1'¦aa¦0¦1000¦A-¦0-2 0-1¶\
 ";
 
 #[test]
 fn nested_runs_references_and_anchors_answer_as_their_table_says(
     rt: HostRuntime,
 ) -> Result<(), Fail> {
-    assert_eq!(rt; faults(rt.alloc(), NESTED, 91)?.as_str(), "");
+    assert_eq!(rt; faults(rt.alloc(), NESTED, 100)?.as_str(), "");
     Ok(())
 }
 

@@ -81,10 +81,10 @@ a_long_line_has_no_marks = refl
 pub a_line_below_the_limit_has_marks : map columns (marks_of usual_texts 4 (codes "()a")) ≡ (0, 1) ∷ (1, 2) ∷ []
 a_line_below_the_limit_has_marks = refl
 
--- texts of one and two characters, with two that are equal
+-- texts of one and two characters, two of which are equal
 abbrev pub odd_texts : List BracketText
 odd_texts = record { text = codes "<"; role = Opener 0 } ∷ record { text = codes "<<"; role = Opener 1 } ∷ record { text = codes "<<"; role = Opener 2 }
-    ∷ record { text = codes "end"; role = Closer (record { bits = 3 }) } ∷ []
+    ∷ record { text = codes ">>"; role = Closer (record { bits = 3 }) } ∷ []
 
 pub the_longest_text_is_the_mark : map columns (marks_of odd_texts 20000 (codes "<<<")) ≡ (0, 2) ∷ (2, 3) ∷ []
 the_longest_text_is_the_mark = refl
@@ -92,7 +92,7 @@ the_longest_text_is_the_mark = refl
 pub the_first_of_equal_texts_is_the_mark : map (λ m. m.role) (marks_of odd_texts 20000 (codes "<<")) ≡ Opener 1 ∷ []
 the_first_of_equal_texts_is_the_mark = refl
 
--- "end" closes kinds 0 and 1
-pub a_closer_of_two_kinds_takes_the_last_of_either : map pairs (paired 200 (record { line = 0; col = 9 }) (text_marks odd_texts 20000 (codes "< <<endend" ∷ [])))
+-- ">>" closes kinds 0 and 1
+pub a_closer_of_two_kinds_takes_the_last_of_either : map pairs (paired 200 (record { line = 0; col = 8 }) (text_marks odd_texts 20000 (codes "< <<>>>>" ∷ [])))
     ≡ (0, Some 3) ∷ (1, Some 2) ∷ (1, Some 1) ∷ (0, Some 0) ∷ []
 a_closer_of_two_kinds_takes_the_last_of_either = refl

@@ -1,5 +1,5 @@
--- The marks of a line. That the longest text wins, that a very long line has none, and the three built-in
--- pairs are this project's own.
+-- The marks of a line. A text is a bracket wherever it stands: what stands beside it doesn't count. That the longest
+-- text wins, that a very long line has none, and the three built-in pairs are this project's own.
 use Rattle.std.specs.Prelude.{ℕ, zero, suc, ◌+◌, ◌-◌, ◌==◌, List, [], ◌∷◌, ◌++◌, length, map, filter, Bool, false, nat_eq, nat_lt, nat_le, if◌then◌else◌, Option, Some, None}
 use Rattle.std.specs.List.{starts_with}
 use Rattle.text_pos.specs.KindSet.{only}
