@@ -2,7 +2,7 @@
 use Rattle.std.proofs.Common.{◌≡◌, ℕ, List, [], ◌∷◌, refl}
 use Rattle.text_defs.specs.Batch.{TextEdit, edited}
 use Rattle.line_text.specs.declared.carry.Run.{Run}
-use Rattle.line_text.specs.Carried.{carried, new_number}
+use Rattle.line_text.specs.Carried.{carried}
 
 abbrev edit : ℕ → ℕ → ℕ → ℕ → List ℕ → TextEdit
 edit from_line from_col to_line to_col text = record { span = record { from = record { line = from_line; col = from_col }; to = record { line = to_line; col = to_col } }; text = text }

@@ -7,4 +7,5 @@ pub mod LeadingRuns
 pub mod NormedText
 pub mod Outcomes
 pub mod Places
+pub mod PlacesOfOffsets
 pub mod ValidBatches

@@ -48,7 +48,7 @@ AreLines-lines_of (c ∷ cs) = AreLines-before_lines c (lines_of cs) (eqb c 10) 
 abbrev pub start : List (List ℕ) → ℕ → ℕ
 start lines n = sum_by (λ line. length line + 1) (take n lines)
 
-start_cons : (line : List ℕ) (lines : List (List ℕ)) (n : ℕ) → start (line ∷ lines) (suc n) ≡ length line + 1 + start lines n
+pub start_cons : (line : List ℕ) (lines : List (List ℕ)) (n : ℕ) → start (line ∷ lines) (suc n) ≡ length line + 1 + start lines n
 start_cons line lines n = sum_by-cons (λ x. length x + 1) line (take n lines)
 
 pub start_step : (lines : List (List ℕ)) (n : ℕ) → n < length lines → start lines (suc n) ≡ start lines n + length (line_in lines n) + 1

@@ -1,6 +1,7 @@
 ghost use Rattle.std.specs.Prelude.{◌≡◌, ◌≢◌, ◌^◌, ◌++◌, ◌<◌, ◌≤◌, All, length, IfOk};
 ghost use Rattle.text_defs.specs.Text.{line_count, line_of};
 ghost use Rattle.text_defs.specs.Place.{holds};
+ghost use Rattle.line_text.specs.PlaceLaws.{EachOffsetHasItsPlace, EachPlaceHasItsOffset};
 
 use std::alloc::{AllocError, Global};
 use std::marker::Model;
@@ -115,3 +116,10 @@ impl Text {
         at.line < self.lines() && at.col as usize <= self.line(at.line).chars().len()
     }
 }
+
+/// A place is in a text exactly where it is the place of one of its offsets, from 0 to its length, and each of these
+/// has a place of its own.
+pub fn places_are_those_of_offsets()
+    ensures offsets { EachOffsetHasItsPlace }
+    ensures places { EachPlaceHasItsOffset }
+{}
