@@ -1,5 +1,5 @@
 -- The lines of joined lines are those lines again.
-use Rattle.std.proofs.Common.{◌≡◌, ◌≢◌, ℕ, zero, suc, ◌<◌, ◌≤◌, List, [], ◌∷◌, ◌++◌, length, All, get_or, take, drop, Bool, true, false, cond, refl, ap, sym, ◌∙◌, arith}
+use Rattle.std.proofs.Common.{◌≡◌, ℕ, zero, suc, ◌<◌, ◌≤◌, List, [], ◌∷◌, ◌++◌, length, get_or, take, drop, refl, ap, sym, ◌∙◌, arith}
 use Rattle.std.proofs.lemmas.Bool.{ne_eqb}
 use Rattle.std.proofs.lemmas.List.{length-append, append-nil, append_assoc}
 use Rattle.text_defs.specs.Text.{lines_of, line_in, onto_first}
@@ -36,11 +36,6 @@ line_in-IsLine [] n h = tt
 line_in-IsLine (line ∷ lines) zero h = h.0
 line_in-IsLine (line ∷ lines) (suc n) h = line_in-IsLine lines n h.1
 
-pub All-IsLine : (line : List ℕ) → IsLine line → All (λ c. c ≢ 10) line
-All-IsLine [] h k d l = absurd (omega arith)
-All-IsLine (c ∷ cs) h zero d l = h.0
-All-IsLine (c ∷ cs) h (suc k) d l = All-IsLine cs h.1 k d (omega arith)
-
 pub length-line_in-behind : (lines : List (List ℕ)) (n : ℕ) → length (line_in lines n) ≤ length (behind_lf lines)
 length-line_in-behind [] n = omega arith
 length-line_in-behind (line ∷ lines) zero = omega (arith, length-append line (behind_lf lines))
@@ -50,14 +45,6 @@ pub length-line_in : (lines : List (List ℕ)) (n : ℕ) → length (line_in lin
 length-line_in [] n = omega arith
 length-line_in (line ∷ lines) zero = omega (arith, length-append line (behind_lf lines))
 length-line_in (line ∷ lines) (suc n) = omega (arith, length-append line (behind_lf lines), length-line_in-behind lines n)
-
-pub AreLines-push : (lines : List (List ℕ)) (line : List ℕ) → AreLines lines → IsLine line → AreLines (lines ++ line ∷ [])
-AreLines-push [] line h i = (i, tt)
-AreLines-push (first ∷ lines) line h i = (h.0, AreLines-push lines line h.1 i)
-
-pub IsLine-append : (xs ys : List ℕ) → IsLine xs → IsLine ys → IsLine (xs ++ ys)
-IsLine-append [] ys h i = i
-IsLine-append (x ∷ xs) ys h i = (h.0, IsLine-append xs ys h.1 i)
 
 -- one line more, and its end
 pub ended-push : (lines : List (List ℕ)) (line : List ℕ) → ended (lines ++ line ∷ []) ≡ (ended lines ++ line) ++ 10 ∷ []
@@ -82,8 +69,3 @@ pub IsLine-take : (n : ℕ) (line : List ℕ) → IsLine line → IsLine (take n
 IsLine-take zero line h = tt
 IsLine-take (suc n) [] h = tt
 IsLine-take (suc n) (c ∷ cs) h = (h.0, IsLine-take n cs h.1)
-
--- what a call that may have failed leaves
-pub IsLine-cond : (b : Bool) (xs ys : List ℕ) → IsLine xs → IsLine ys → IsLine (cond b (xs ++ ys) xs)
-IsLine-cond true xs ys h i = IsLine-append xs ys h i
-IsLine-cond false xs ys h i = h

@@ -1,4 +1,3 @@
-pub mod CarriedExamples
 pub mod CarriedRuns
 pub mod CountedSizes
 pub mod FileTexts
@@ -8,4 +7,5 @@ pub mod NormedText
 pub mod Outcomes
 pub mod Places
 pub mod PlacesOfOffsets
+pub mod PlainLines
 pub mod ValidBatches

@@ -1,5 +1,6 @@
 pub mod BatchRefusals
 pub mod Carried
+pub mod CarriedExamples
 pub mod LineEnds
 pub mod Lines
 pub mod PlaceLaws

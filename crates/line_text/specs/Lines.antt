@@ -31,10 +31,19 @@ abbrev pub AreLines : List (List ℕ) → Type 0
 AreLines [] = Unit {0}
 AreLines (line ∷ lines) = IsLine line × AreLines lines
 
+-- a line that is kept holds neither LF nor CR
+abbrev pub IsPlain : List ℕ → Type 0
+IsPlain [] = Unit {0}
+IsPlain (c ∷ cs) = (c ≢ 10) × (c ≢ 13) × IsPlain cs
+
+abbrev pub ArePlain : List (List ℕ) → Type 0
+ArePlain [] = Unit {0}
+ArePlain (line ∷ lines) = IsPlain line × ArePlain lines
+
 -- lines that are a text within the limits, and the number of its characters
 pub record IsKept (lines : List (List ℕ)) (chars : ℕ) : Type 0 where
   pub some_line : 0 < length lines
-  pub no_lf : AreLines lines
+  pub plain : ArePlain lines
   pub counted : chars ≡ length (joined lines)
   pub few_chars : chars ≤ most_chars
   pub few_lines : length lines ≤ most_lines

@@ -1,4 +1,4 @@
-ghost use Rattle.std.specs.Prelude.{◌≡◌, List, ℕ, ◌∷◌, ◌++◌};
+ghost use Rattle.std.specs.Prelude.{◌≡◌, ◌≢◌, List, ℕ, ◌∷◌, ◌++◌, IfSome};
 ghost use Rattle.std.specs.Option.{option_to_list};
 ghost use Rattle.line_text.specs.LineEnds.{normed};
 
@@ -14,7 +14,8 @@ impl Before {
     /// What the next character adds to a text: nothing where it is the mark at a file's start or the LF
     /// of a CR LF, an LF where it is a CR, and else itself.
     pub(crate) fn take(&mut self, c: char) -> Option<char>
-        ensures { (rest : List ℕ) → normed self.old (c ∷ rest) ≡ option_to_list result ++ normed self.new rest }
+        ensures adds { (rest : List ℕ) → normed self.old (c ∷ rest) ≡ option_to_list result ++ normed self.new rest }
+        ensures no_cr { IfSome result (λ added. added ≢ 13) }
     {
         let falls_away = match self {
             Before::FileStart => c == '\u{feff}',

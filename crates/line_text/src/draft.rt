@@ -1,10 +1,10 @@
-ghost use Rattle.std.specs.Prelude.{◌≡◌, ◌-◌, ◌≤◌, ℕ, List, [], ◌∷◌, ◌++◌, length, take, drop, OnOk, IfOk};
+ghost use Rattle.std.specs.Prelude.{◌≡◌, ◌≢◌, ◌-◌, ◌≤◌, ℕ, List, [], ◌∷◌, ◌++◌, length, take, drop, OnOk, IfOk};
 ghost use Rattle.std.specs.Option.{option_map};
 ghost use Rattle.std.specs.Rc.{rc_value};
 ghost use Rattle.std.specs.Str.{chars};
 ghost use Rattle.text_defs.specs.Text.{line_count, most_chars, most_lines};
 ghost use Rattle.line_text.specs.LineEnds.{normed};
-ghost use Rattle.line_text.specs.Lines.{chars_of, IsLine};
+ghost use Rattle.line_text.specs.Lines.{chars_of, IsPlain};
 
 use crate::before::Before;
 use crate::text::{Line, Text};
@@ -28,15 +28,15 @@ impl Model for Draft {
     ghost use Rattle.std.specs.Prelude.{List, ℕ, map, ◌++◌};
     ghost use Rattle.std.specs.Option.{option_map};
     ghost use Rattle.std.specs.Rc.{rc_value};
-    ghost use Rattle.line_text.specs.Lines.{ended, chars_of, IsLine, AreLines};
+    ghost use Rattle.line_text.specs.Lines.{ended, chars_of, IsPlain, ArePlain};
 
     ghost Value = { List ℕ };
 
     ghost view = { λ draft. ended (map rc_value draft.done.items)
         ++ (chars_of (option_map rc_value draft.shared) ++ draft.current.items) };
 
-    ghost invariant = { λ draft. AreLines (map rc_value draft.done.items)
-        × IsLine (chars_of (option_map rc_value draft.shared)) × IsLine draft.current.items };
+    ghost invariant = { λ draft. ArePlain (map rc_value draft.done.items)
+        × IsPlain (chars_of (option_map rc_value draft.shared)) × IsPlain draft.current.items };
 }
 
 impl Draft {
@@ -51,8 +51,9 @@ impl Draft {
         }
     }
 
-    /// Adds a character, which may be an LF.
+    /// Adds a character, which may be an LF and is no CR.
     pub(crate) fn put(&mut self, c: char) -> Result<(), AllocError>
+        requires { c ≢ 13 }
         ensures { OnOk result (self.new ≡ self.old ++ c ∷ []) }
     {
         if c == '\n' {
@@ -82,7 +83,7 @@ impl Draft {
     ) -> Result<(), AllocError>
         requires rises { from ≤ to }
         requires within { to ≤ length line.now.value }
-        requires no_lf { IsLine line.now.value }
+        requires plain { IsPlain line.now.value }
         ensures { OnOk result (self.new ≡ self.old ++ take (to - from) (drop from line.now.value)) }
     {
         let chars = line.chars();

@@ -60,7 +60,7 @@ impl Model for Text {
 }
 
 impl Text {
-    ghost use Rattle.line_text.specs.Lines.{joined, IsLine, IsKept};
+    ghost use Rattle.line_text.specs.Lines.{joined, IsPlain, IsKept};
     ghost use Rattle.std.specs.Prelude.{map};
     ghost use Rattle.std.specs.Rc.{rc_value};
 
@@ -94,6 +94,7 @@ impl Text {
         requires { n < line_count self.now }
         ensures line { result.now ≡ line_of self.now n }
         ensures no_lf { All (λ c. c ≢ 10) result.now }
+        ensures no_cr { All (λ c. c ≢ 13) result.now }
         ensures few { length result.now ≤ 2 ^ 22 }
     {
         self.shared_line(n)
@@ -103,7 +104,7 @@ impl Text {
     pub(crate) fn shared_line(&self, n: u32) -> &Rc<Line>
         requires { n < line_count self.now }
         ensures line { result.now.value ≡ line_of self.now n }
-        ensures no_lf { IsLine result.now.value }
+        ensures plain { IsPlain result.now.value }
         ensures few { length result.now.value ≤ 2 ^ 22 }
     {
         &self.lines[n as usize]

@@ -8,7 +8,7 @@ use Rattle.line_text.proofs.size.size_of.Goals as goal
 pub loop-c-preserved-in-Some-take : goal.loop-c-preserved-in-Some-take
 loop-c-preserved-in-Some-take c =
     let step = c.in-Some.ensures.steps.0 in
-    let takes : Takes c.loop-c.before c.in-Some.c (Some c.in-Some-take.added) c.take.new.self = record { adds = c.in-Some-take.ensures } in
+    let takes : Takes c.loop-c.before c.in-Some.c (Some c.in-Some-take.added) c.take.new.self = record { adds = c.in-Some-take.ensures.adds } in
     let had = c.loop-c.invariant.counted in
     record {
       rest_utf8 = IsUtf8-past_char _ _ _ c.loop-c.invariant.rest_utf8 step;
@@ -22,7 +22,7 @@ loop-c-preserved-in-Some-take c =
 pub loop-c-preserved : goal.loop-c-preserved
 loop-c-preserved c =
     let step = c.in-Some.ensures.steps.0 in
-    let takes : Takes c.loop-c.before c.in-Some.c None c.take.new.self = record { adds = c.in_default.ensures } in
+    let takes : Takes c.loop-c.before c.in-Some.c None c.take.new.self = record { adds = c.in_default.ensures.adds } in
     let had = c.loop-c.invariant.counted in
     record {
       rest_utf8 = IsUtf8-past_char _ _ _ c.loop-c.invariant.rest_utf8 step;

@@ -3,7 +3,8 @@ use Rattle.std.specs.Rc.{rc_value}
 use Rattle.std.specs.Option.{option_map}
 use Rattle.std.proofs.lemmas.List.{map_push, append-nil}
 use Rattle.line_text.specs.Lines.{chars_of}
-use Rattle.line_text.proofs.JoinedLines.{AreLines-push, IsLine-append, ended-push}
+use Rattle.line_text.proofs.JoinedLines.{ended-push}
+use Rattle.line_text.proofs.PlainLines.{ArePlain-push, IsPlain-append}
 use Rattle.line_text.proofs.draft.Draft.end_line.Goals as goal
 use Rattle.line_text.proofs.draft.Draft.end_line.Goals.{In_ok-push}
 
@@ -17,7 +18,7 @@ pub invariant_of-self-2 : goal.invariant_of-self-2
 invariant_of-self-2 c =
     let before = (goal.at.invariant_of-self-2 c).In_ok-push in
     let held = c.self.invariant in
-    rw (has_line before, c.clear.ensures.items, c.take.ensures.after) (AreLines-push _ _ held.0 (IsLine-append _ _ held.1 held.2), tt, tt)
+    rw (has_line before, c.clear.ensures.items, c.take.ensures.after) (ArePlain-push _ _ held.0 (IsPlain-append _ _ held.1 held.2), tt, tt)
 
 pub returns : goal.returns
 returns c =

@@ -3,8 +3,9 @@ use Rattle.std.specs.Rc.{rc_value}
 use Rattle.std.specs.Option.{option_map}
 use Rattle.std.proofs.lemmas.List.{map_push, length-append}
 use Rattle.text_defs.specs.Text.{lines_of}
-use Rattle.line_text.specs.Lines.{joined, chars_of, AreLines}
-use Rattle.line_text.proofs.JoinedLines.{AreLines-push, IsLine-append, joined-push, lines_of-joined}
+use Rattle.line_text.specs.Lines.{joined, chars_of, ArePlain}
+use Rattle.line_text.proofs.JoinedLines.{joined-push, lines_of-joined}
+use Rattle.line_text.proofs.PlainLines.{ArePlain-lines, ArePlain-push, IsPlain-append}
 use Rattle.line_text.proofs.draft.Draft.finish.Goals as goal
 use Rattle.line_text.proofs.draft.Draft.finish.Goals.{In_ok-push}
 
@@ -23,11 +24,11 @@ pub of_lines-requires : goal.of_lines-requires
 of_lines-requires c =
     let lines = map rc_value c.push.new.self.items in
     let some_line : 0 < length lines = rw (has_line c) (omega (arith, length-append (map rc_value c.self.inside.done.items) ((chars_of (option_map rc_value c.self.inside.shared) ++ c.self.inside.current.items) ∷ []))) in
-    let no_lf : AreLines lines = rw (has_line c) (AreLines-push _ _ c.self.invariant.0 (IsLine-append _ _ c.self.invariant.1 c.self.invariant.2)) in
-    let lines_are = sym (ap lines_of (is_text c)) ∙ lines_of-joined lines some_line no_lf in
+    let plain : ArePlain lines = rw (has_line c) (ArePlain-push _ _ c.self.invariant.0 (IsPlain-append _ _ c.self.invariant.1 c.self.invariant.2)) in
+    let lines_are = sym (ap lines_of (is_text c)) ∙ lines_of-joined lines some_line (ArePlain-lines lines plain) in
     record {
       some_line = some_line;
-      no_lf = no_lf;
+      plain = plain;
       counted = c.requires.counted ∙ sym (ap length (is_text c));
       few_chars = c.requires.few_chars;
       few_lines = omega (arith, ap length lines_are, c.requires.few_lines);

@@ -1,4 +1,4 @@
-use Rattle.line_text.proofs.JoinedLines.{IsLine-cond, IsLine-take, IsLine-drop}
+use Rattle.line_text.proofs.PlainLines.{IsPlain-cond, IsPlain-take, IsPlain-drop}
 use Rattle.line_text.proofs.draft.Draft.put_part.Goals as goal
 
 pub invariant_of-self-else-is_whole : goal.invariant_of-self-else-is_whole
@@ -6,5 +6,5 @@ invariant_of-self-else-is_whole c =
     rw c.extend_from_slice.ensures.items (
       c.self.invariant.0,
       c.self.invariant.1,
-      IsLine-cond _ _ _ c.self.invariant.2 (rw (c.chars-chars.ensures, c.deref.ensures) (IsLine-take _ _ (IsLine-drop _ _ c.requires.no_lf))),
+      IsPlain-cond _ _ _ c.self.invariant.2 (rw (c.chars-chars.ensures, c.deref.ensures) (IsPlain-take _ _ (IsPlain-drop _ _ c.requires.plain))),
     )

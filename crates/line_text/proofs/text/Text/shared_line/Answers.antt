@@ -2,12 +2,13 @@ use Rattle.std.proofs.Common.{ℕ, ◌<◌, ◌≡◌, map, length, List, sym, a
 use Rattle.std.specs.Rc.{rc_value}
 use Rattle.std.proofs.lemmas.List.{length-map, get_or-map}
 use Rattle.text_defs.specs.Text.{lines_of, line_in}
-use Rattle.line_text.proofs.JoinedLines.{lines_of-joined, line_in-get_or, line_in-IsLine, length-line_in}
+use Rattle.line_text.proofs.JoinedLines.{lines_of-joined, line_in-get_or, length-line_in}
+use Rattle.line_text.proofs.PlainLines.{ArePlain-lines, line_in-IsPlain}
 use Rattle.line_text.proofs.text.Text.shared_line.Goals as goal
 use Rattle.line_text.proofs.text.Text.shared_line.Goals.{After-self, After-index}
 
 has_lines : (c : After-self) → lines_of c.args.self.now ≡ map rc_value c.self.inside.lines.items
-has_lines c = rw (← c.self.view_is) (lines_of-joined (map rc_value c.self.inside.lines.items) c.self.invariant.some_line c.self.invariant.no_lf)
+has_lines c = rw (← c.self.view_is) (lines_of-joined (map rc_value c.self.inside.lines.items) c.self.invariant.some_line (ArePlain-lines _ c.self.invariant.plain))
 
 is_below : (c : After-self) → c.args.n < length c.self.inside.lines.items
 is_below c = let e = ap (length {A = List ℕ}) (has_lines c) in omega (arith, length-map c.self.inside.lines.items rc_value)
@@ -26,9 +27,9 @@ is_line c =
 pub returns-clause-line : goal.returns-clause-line
 returns-clause-line c = rw (has_lines ((goal.at.returns-clause-line c).After-self)) (is_line c)
 
-pub returns-clause-no_lf : goal.returns-clause-no_lf
-returns-clause-no_lf c =
-    rw (is_line c) (line_in-IsLine (map rc_value c.self.inside.lines.items) c.args.n c.self.invariant.no_lf)
+pub returns-clause-plain : goal.returns-clause-plain
+returns-clause-plain c =
+    rw (is_line c) (line_in-IsPlain (map rc_value c.self.inside.lines.items) c.args.n c.self.invariant.plain)
 
 pub returns-clause-few : goal.returns-clause-few
 returns-clause-few c =

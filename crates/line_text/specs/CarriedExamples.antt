@@ -1,5 +1,5 @@
--- What some batches carry.
-use Rattle.std.proofs.Common.{◌≡◌, ℕ, List, [], ◌∷◌, refl}
+-- What some batches carry: worked examples.
+use Rattle.std.specs.Prelude.{◌≡◌, ℕ, List, [], ◌∷◌, refl}
 use Rattle.text_defs.specs.Batch.{TextEdit, edited}
 use Rattle.line_text.specs.declared.carry.Run.{Run}
 use Rattle.line_text.specs.Carried.{carried}
