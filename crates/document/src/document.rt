@@ -85,6 +85,7 @@ impl Document {
         self.answer(alloc, question).map_err(AskRefusal::Memory)
     }
 
+    /// The text as edited so far.
     pub fn text(&self) -> &Text
         ensures { result.now ≡ self.now.text }
     {
