@@ -101,7 +101,9 @@ impl Document {
     {
         let lines = self.text.lines();
         match *question {
-            Question::Brackets { from, to } => from <= to && to < lines && to - from < MOST_LINES,
+            Question::Brackets { from, to } => from <= to
+                && to < lines
+                && to - from < MOST_LINES_OF_A_QUESTION,
             Question::Line { line } => line < lines,
         }
     }
@@ -124,7 +126,7 @@ impl Document {
 }
 
 /// A question asks for at most so many lines.
-const MOST_LINES: u32 = 4096;
+const MOST_LINES_OF_A_QUESTION: u32 = 4096;
 
 /// The rows of a whole text.
 fn pair_text(
