@@ -69,7 +69,7 @@ fn longer<'a>(first: Option<&'a BracketText>, b: &'a BracketText) -> Option<&'a 
 }
 
 impl Brackets {
-    /// The pairs `{` and `}`, `[` and `]`, `(` and `)`.
+    /// The pairs `{` and `}`, `[` and `]`, `(` and `)`, of the kinds 0, 1 and 2. They are this project's own.
     pub fn usual(alloc: Global) -> Result<Brackets, AllocError>
         ensures { IfOk result (λ b. b ≡ usual_texts) }
     {
@@ -121,7 +121,8 @@ impl Brackets {
         }
     }
 
-    /// The marks of a line, which has none where it has `long` or more characters.
+    /// The marks of a line, which has none where it has `long` or more characters. That, and that the longest text is
+    /// the mark, is this project's own.
     pub fn marks(&self, alloc: Global, line: &Line, long: u32) -> Result<LineMarks, AllocError>
         requires { length line.now < 2 ^ 32 }
         ensures marks { IfOk result (λ found. found.marks ≡ marks_of self.now long line.now) }

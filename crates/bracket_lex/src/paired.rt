@@ -24,7 +24,8 @@ impl Model for Paired {
 }
 
 impl Paired {
-    /// Pairs the marks of a text that ends at `end`, where at most `limit` brackets may be open at once.
+    /// Pairs the marks of a text that ends at `end`, where at most `limit` brackets may be open at once. They are
+    /// paired as in VS Code's bracketPairsTree; the limit and the colours are this project's own.
     pub fn of(alloc: Global, lines: &MarkLines, end: Pos, limit: u32) -> Result<Paired, AllocError>
         requires { length (marks_in lines.now) < 2 ^ 32 }
         ensures { IfOk result (λ p. p ≡ paired limit end (marks_in lines.now)) }
@@ -38,6 +39,7 @@ impl Paired {
         Ok(Paired { rows })
     }
 
+    /// The rows, in order of the text.
     pub fn rows(&self) -> &[Row]
         ensures { result.now ≡ self.now }
     {

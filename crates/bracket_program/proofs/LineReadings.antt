@@ -1,10 +1,10 @@
 -- What is handed out for lines means what the lines mean.
 use Rattle.std.proofs.Common.{◌≡◌, ℕ, List, [], ◌∷◌, ◌++◌, length, map, refl, sym, ap, ◌∙◌, Bool, true, false}
 use Rattle.std.specs.Prelude.{None, nat_lt, if◌then◌else◌}
-use Rattle.text_defs.specs.Text.{lines_of, all_but_last, last_line, whole_lines, unfinished}
+use Rattle.text_defs.specs.Text.{lines_of, all_but_last, last_line, whole_lines, unfinished, most_line_bytes}
 use Rattle.piece_io.specs.declared.line_cutter.Cut.{Cut}
 use Rattle.piece_io.specs.declared.line_cutter.Cut.TheVariants.{Line, TooLong}
-use Rattle.piece_io.specs.Cuts.{Cutting, cut_of, cuts_of, most_in_line, next_cut, first_cut}
+use Rattle.piece_io.specs.Cuts.{Cutting, cut_of, cuts_of, next_cut, first_cut}
 use Rattle.piece_io.specs.CutLaws.{lines_of-split, unfinished-line, unfinished-append}
 use Rattle.answer_defs.specs.declared.refusal.Refusal.TheVariants as refusal
 use Rattle.script_words.specs.Script.{refused, meaning_of, reading_of}
@@ -16,7 +16,7 @@ cut_reading-by true line = refl
 cut_reading-by false line = refl
 
 cut_reading-cut_of : (line : List ℕ) → cut_reading (cut_of line) ≡ reading_of line
-cut_reading-cut_of line = cut_reading-by (nat_lt most_in_line (length line)) line
+cut_reading-cut_of line = cut_reading-by (nat_lt most_line_bytes (length line)) line
 
 pub readings_of_cuts : (lines : List (List ℕ)) → map cut_reading (map cut_of lines) ≡ map reading_of lines
 readings_of_cuts [] = refl
@@ -41,7 +41,7 @@ last_given-by false c line = refl
 
 last_given-line : (line : List ℕ) → last_given (cut_of line) true ≡ map cut_of (line_if_any line)
 last_given-line [] = refl
-last_given-line (c ∷ line) = last_given-by (nat_lt most_in_line (length (c ∷ line))) c line
+last_given-line (c ∷ line) = last_given-by (nat_lt most_line_bytes (length (c ∷ line))) c line
 
 -- when nothing more comes, the unfinished line is handed out too
 pub readings_given-ended : (cuts : List Cut) (ended : Bool) (script : List ℕ) → cuts ≡ cuts_of (unfinished script) → ended ≡ true

@@ -33,6 +33,6 @@ bit false = 0
 abbrev pub AreBitsOf : ℕ → List CharRange → ℕ → Type 0
 AreBitsOf word ranges first = (k : ℕ) → k < 64 → bit_at word k ≡ bit (in_set ranges (first + k))
 
--- the ranges with one more at the end, of the codes from `start` up to `at`
+-- the ranges with one more at the end, of the codes from `start` on and below `at`, where there are any
 unfoldable pub closed : List CharRange → ℕ → ℕ → List CharRange
 closed ranges start at = if nat_lt start at then ranges ++ record { first = start; last = at - 1 } ∷ [] else ranges

@@ -26,95 +26,97 @@ fn members(alloc: Global, set: &CharSet, text: &str) -> Result<String, AllocErro
     Ok(found)
 }
 
+/// A set by its name, characters that are in it, and characters that aren't.
+const NAMED: [(NamedSet, &str, &str); 20] = [
+    (NamedSet::Digit, "09\u{660}", "a_\u{bd}\u{2160}"),
+    (
+        NamedSet::Word,
+        "aZ09_\u{e9}\u{df}\u{3a9}\u{4e2d}\u{301}\u{660}\u{203f}",
+        "- @[`{\u{a0}\u{2028}\u{1f600}\u{378}\u{e000}\u{bd}\u{2160}",
+    ),
+    (
+        NamedSet::Space,
+        "\t\n\u{b}\u{c}\r \u{85}\u{a0}\u{1680}\u{2028}\u{2029}\u{3000}",
+        "a\u{1c}\u{200b}\u{feff}",
+    ),
+    (NamedSet::Xdigit, "09AFaf", "gG/:@`\u{ff10}"),
+    (
+        NamedSet::Alpha,
+        "a\u{e9}\u{3a9}\u{4e2d}\u{301}\u{1c5}",
+        "0_ \u{1f600}\u{2160}",
+    ),
+    (
+        NamedSet::Alnum,
+        "a9\u{e9}\u{4e2d}\u{301}\u{660}",
+        "_-\u{bd}",
+    ),
+    (
+        NamedSet::Upper,
+        "AZ\u{c9}\u{3a9}",
+        "a\u{e9}\u{4e2d}\u{1c5}\u{2160}",
+    ),
+    (
+        NamedSet::Lower,
+        "az\u{e9}\u{df}\u{3c9}",
+        "A\u{3a9}\u{4e2d}0",
+    ),
+    (NamedSet::Blank, "\t \u{a0}\u{3000}", "\n\u{2028}a"),
+    (
+        NamedSet::Cntrl,
+        "\0\t\u{1f}\u{7f}\u{85}\u{9f}",
+        " a\u{a0}\u{200d}",
+    ),
+    (
+        NamedSet::Punct,
+        "!#%&*,-./:;?@[\\]_{}$+<=>^`|~\u{ab}\u{2014}\u{203f}",
+        "a0 \u{20ac}\u{d7}\u{1f600}",
+    ),
+    (
+        NamedSet::Graph,
+        "a!0\u{e9}\u{4e2d}\u{301}\u{1f600}\u{e000}\u{200d}",
+        " \t\0\u{85}\u{a0}\u{2028}\u{378}",
+    ),
+    (
+        NamedSet::Print,
+        "a!0 \u{a0}\u{3000}\u{1f600}",
+        "\t\n\0\u{2028}\u{378}",
+    ),
+    (NamedSet::Ascii, "\0a?@\u{7f}", "\u{80}\u{e9}"),
+    (
+        NamedSet::Category(GeneralCategory::TitlecaseLetter),
+        "\u{1c5}",
+        "Aa",
+    ),
+    (
+        NamedSet::Category(GeneralCategory::Unassigned),
+        "\u{378}\u{10ffff}",
+        "a\u{e000}",
+    ),
+    (
+        NamedSet::Category(GeneralCategory::PrivateUse),
+        "\u{e000}\u{f8ff}\u{10fffd}",
+        "\u{d7ff}\u{f900}\u{10ffff}",
+    ),
+    (
+        NamedSet::Group(GeneralCategoryGroup::Number),
+        "0\u{bd}\u{2160}",
+        "a",
+    ),
+    (
+        NamedSet::Group(GeneralCategoryGroup::Other),
+        "\0\u{200d}\u{e000}\u{378}",
+        "a ",
+    ),
+    (
+        NamedSet::Group(GeneralCategoryGroup::Symbol),
+        "$+^\u{1f600}",
+        "!a",
+    ),
+];
+
 #[test]
 fn named_sets_have_their_members(rt: HostRuntime) -> Result<(), Fail> {
-    let cases: [(NamedSet, &str, &str); 20] = [
-        (NamedSet::Digit, "09\u{660}", "a_\u{bd}\u{2160}"),
-        (
-            NamedSet::Word,
-            "aZ09_\u{e9}\u{df}\u{3a9}\u{4e2d}\u{301}\u{660}\u{203f}",
-            "- @[`{\u{a0}\u{2028}\u{1f600}\u{378}\u{e000}\u{bd}\u{2160}",
-        ),
-        (
-            NamedSet::Space,
-            "\t\n\u{b}\u{c}\r \u{85}\u{a0}\u{1680}\u{2028}\u{2029}\u{3000}",
-            "a\u{1c}\u{200b}\u{feff}",
-        ),
-        (NamedSet::Xdigit, "09AFaf", "gG/:@`\u{ff10}"),
-        (
-            NamedSet::Alpha,
-            "a\u{e9}\u{3a9}\u{4e2d}\u{301}\u{1c5}",
-            "0_ \u{1f600}\u{2160}",
-        ),
-        (
-            NamedSet::Alnum,
-            "a9\u{e9}\u{4e2d}\u{301}\u{660}",
-            "_-\u{bd}",
-        ),
-        (
-            NamedSet::Upper,
-            "AZ\u{c9}\u{3a9}",
-            "a\u{e9}\u{4e2d}\u{1c5}\u{2160}",
-        ),
-        (
-            NamedSet::Lower,
-            "az\u{e9}\u{df}\u{3c9}",
-            "A\u{3a9}\u{4e2d}0",
-        ),
-        (NamedSet::Blank, "\t \u{a0}\u{3000}", "\n\u{2028}a"),
-        (
-            NamedSet::Cntrl,
-            "\0\t\u{1f}\u{7f}\u{85}\u{9f}",
-            " a\u{a0}\u{200d}",
-        ),
-        (
-            NamedSet::Punct,
-            "!#%&*,-./:;?@[\\]_{}$+<=>^`|~\u{ab}\u{2014}\u{203f}",
-            "a0 \u{20ac}\u{d7}\u{1f600}",
-        ),
-        (
-            NamedSet::Graph,
-            "a!0\u{e9}\u{4e2d}\u{301}\u{1f600}\u{e000}\u{200d}",
-            " \t\0\u{85}\u{a0}\u{2028}\u{378}",
-        ),
-        (
-            NamedSet::Print,
-            "a!0 \u{a0}\u{3000}\u{1f600}",
-            "\t\n\0\u{2028}\u{378}",
-        ),
-        (NamedSet::Ascii, "\0a?@\u{7f}", "\u{80}\u{e9}"),
-        (
-            NamedSet::Category(GeneralCategory::TitlecaseLetter),
-            "\u{1c5}",
-            "Aa",
-        ),
-        (
-            NamedSet::Category(GeneralCategory::Unassigned),
-            "\u{378}\u{10ffff}",
-            "a\u{e000}",
-        ),
-        (
-            NamedSet::Category(GeneralCategory::PrivateUse),
-            "\u{e000}\u{f8ff}\u{10fffd}",
-            "\u{d7ff}\u{f900}\u{10ffff}",
-        ),
-        (
-            NamedSet::Group(GeneralCategoryGroup::Number),
-            "0\u{bd}\u{2160}",
-            "a",
-        ),
-        (
-            NamedSet::Group(GeneralCategoryGroup::Other),
-            "\0\u{200d}\u{e000}\u{378}",
-            "a ",
-        ),
-        (
-            NamedSet::Group(GeneralCategoryGroup::Symbol),
-            "$+^\u{1f600}",
-            "!a",
-        ),
-    ];
-    for (name, inside, outside) in cases {
+    for (name, inside, outside) in NAMED {
         let set = CharSet::named(rt.alloc(), name)?;
         let others = set.complement(rt.alloc())?;
         assert!(rt;

@@ -85,6 +85,7 @@ impl Document {
         self.answer(alloc, question).map_err(AskRefusal::Memory)
     }
 
+    /// The text as edited so far.
     pub fn text(&self) -> &Text
         ensures { result.now ≡ self.now.text }
     {
@@ -100,7 +101,9 @@ impl Document {
     {
         let lines = self.text.lines();
         match *question {
-            Question::Brackets { from, to } => from <= to && to < lines && to - from < MOST_LINES,
+            Question::Brackets { from, to } => from <= to
+                && to < lines
+                && to - from < MOST_LINES_OF_A_QUESTION,
             Question::Line { line } => line < lines,
         }
     }
@@ -123,7 +126,7 @@ impl Document {
 }
 
 /// A question asks for at most so many lines.
-const MOST_LINES: u32 = 4096;
+const MOST_LINES_OF_A_QUESTION: u32 = 4096;
 
 /// The rows of a whole text.
 fn pair_text(

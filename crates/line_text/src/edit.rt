@@ -25,6 +25,7 @@ impl Model for Edit {
 }
 
 impl Edit {
+    /// An edit by which these characters take the place of the span.
     pub fn new(alloc: Global, span: Span, text: &str) -> Result<Edit, AllocError>
         ensures span { IfOk result (λ edit. edit.span ≡ span) }
         ensures text { IfOk result (λ edit. edit.text ≡ chars text.now) }

@@ -9,8 +9,8 @@ use crate::text::Text;
 use std::alloc::{AllocError, Global};
 use thiserror::Error;
 
-/// Why a file is no text. `at` is the place of the first byte that begins no character, and a count is what
-/// the text would have. The limits and their order are this project's own.
+/// Why a file is no text. `at` is the place of the first byte that begins no character, in bytes from 0, and a
+/// count is what the text would have. The limits and their order are this project's own.
 #[derive(Debug, Drop, Error)]
 pub enum TextRefusal {
     #[error("NotUtf8")]

@@ -33,6 +33,7 @@ impl Line {
         Ok(Line { chars })
     }
 
+    /// The characters, one Unicode scalar value each.
     pub fn chars(&self) -> &[char]
         ensures { result.now ≡ self.now }
     {

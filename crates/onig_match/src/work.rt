@@ -161,7 +161,9 @@ impl Work {
     }
 }
 
-/// Whether a pattern matches at a place of a text. After a hit, `work` has its captures.
+/// Whether a pattern matches a text at `at`, in characters from 0. A hit leaves its captures in `work`, and any other
+/// answer those of the last hit. `Miss` says that it doesn't match, and `Spent` that the budget of visits didn't suffice
+/// to tell. The order of ways is that of Oniguruma's RE; the budget is this project's own.
 pub fn attempt(pattern: &Pattern, work: &mut Work, text: &[char], at: u32, flags: Flags) -> Outcome
     requires text { length text.now < 2 ^ 31 }
     requires at { at ≤ length text.now }

@@ -2,7 +2,7 @@ ghost use Rattle.std.specs.Prelude.{◌≡◌, ◌+◌, IfOk};
 
 use std::alloc::AllocError;
 
-/// How many there are with so many more. 2^32 are more than memory has.
+/// How many there are with so many more. 2^32 - 1 or more count as want of memory.
 pub(crate) fn counted(count: u32, more: usize) -> Result<u32, AllocError>
     ensures { IfOk result (λ all. all ≡ count + more) }
 {

@@ -46,7 +46,8 @@ impl PatternDraft {
         self.named = self.named.max(groups);
     }
 
-    /// Adds a list, whose number is how many there were. 2^32 lists or nodes are more than memory has.
+    /// Adds a list, whose number is how many there were. Want of memory is the answer also where that number, or the
+    /// count of all nodes, would be 2^32 - 1 or more: a pattern so large has no room anyway.
     pub fn push_list(&mut self, nodes: Vec<PatNode>) -> Result<ListId, AllocError>
         requires { AreNodes (length self.old.lists) self.old.named nodes.items }
         ensures number { IfOk result (λ id. id.0 ≡ length self.old.lists) }

@@ -24,3 +24,6 @@ pub use draft::PatternDraft;
 pub use pattern::Pattern;
 pub use pattern_defs::{Anchor, Arm, Arms, ListId, ListIds, PatNode};
 pub use syntax_defs::PatternRefusal;
+
+#[cfg(test)]
+mod tests;

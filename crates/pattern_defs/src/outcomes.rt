@@ -1,4 +1,5 @@
-/// What a search knows of its text. `first` says whether `\A` holds at 0, and `anchor` where `\G` holds.
+/// What a search knows of its text. `first` says whether `\A` holds at 0, and `anchor` where `\G` holds, in characters
+/// from 0.
 #[derive(Clone, Copy, Debug, PartialEq, Eq)]
 pub struct Flags {
     pub first: bool,
@@ -26,6 +27,6 @@ pub enum Found {
     /// The pattern `index` matches. Where, its captures tell.
     At { index: u32 },
     Nowhere,
-    /// The attempt of the pattern `index` at `at` was spent.
+    /// The attempt of the pattern `index` at `at`, in characters from 0, was spent.
     Spent { index: u32, at: u32 },
 }

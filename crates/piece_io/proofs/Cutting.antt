@@ -6,11 +6,11 @@ use Rattle.std.proofs.lemmas.List.{take-append-drop, drop-drop, drop_more, get_o
 use Rattle.std.proofs.lemmas.Bool.{eqb-true, ltb-true, lt-ltb}
 use Rattle.memchr.specs.Find.{IsFirstByte, Nowhere, Passes, is_byte}
 use Rattle.piece_io.specs.CutLaws.{lines_of-append, joined, HasLine, HasCut, lines_of-has}
-use Rattle.piece_io.specs.Cuts.{cut_of, cuts_of, most_in_line, first_cut}
+use Rattle.piece_io.specs.Cuts.{cut_of, cuts_of, first_cut}
 use Rattle.piece_io.specs.Pending.{IsOneLine, EndsLine, over_first, pending}
 use Rattle.piece_io.specs.declared.line_cutter.Cut.{Cut}
 use Rattle.piece_io.specs.declared.line_cutter.Cut.TheVariants.{Line, TooLong}
-use Rattle.text_defs.specs.Text.{lines_of, onto_first}
+use Rattle.text_defs.specs.Text.{lines_of, onto_first, most_line_bytes}
 
 before-lf : (c : ℕ) (lines : List (List ℕ)) → (c == 10) ≡ true → (if c == 10 then [] ∷ lines else onto_first c lines) ≡ [] ∷ lines
 before-lf c lines is = ap (λ b. if b then [] ∷ lines else onto_first c lines) is
@@ -89,16 +89,16 @@ fed [] lines = []
 fed (cut ∷ []) lines = grown cut lines
 fed (cut ∷ next ∷ rest) lines = cut ∷ fed (next ∷ rest) lines
 
-longer-cut_of-by : (b : Bool) (line more : List ℕ) → nat_lt most_in_line (length line) ≡ b
+longer-cut_of-by : (b : Bool) (line more : List ℕ) → nat_lt most_line_bytes (length line) ≡ b
     → longer (if b then TooLong else Line line) more ≡ cut_of (line ++ more)
 unfolding longer
 longer-cut_of-by false line more is = refl
 longer-cut_of-by true line more is =
-    let long : most_in_line < length (line ++ more) = omega (arith, ltb-true most_in_line (length line) is, length-append line more) in
-    ap (λ b. if b then TooLong else Line (line ++ more)) (sym (lt-ltb most_in_line (length (line ++ more)) long))
+    let long : most_line_bytes < length (line ++ more) = omega (arith, ltb-true most_line_bytes (length line) is, length-append line more) in
+    ap (λ b. if b then TooLong else Line (line ++ more)) (sym (lt-ltb most_line_bytes (length (line ++ more)) long))
 
 longer-cut_of : (line more : List ℕ) → longer (cut_of line) more ≡ cut_of (line ++ more)
-longer-cut_of line more = longer-cut_of-by (nat_lt most_in_line (length line)) line more refl
+longer-cut_of line more = longer-cut_of-by (nat_lt most_line_bytes (length line)) line more refl
 
 fed-cuts : (lines later : List (List ℕ)) → HasLine lines → HasLine later → map cut_of (joined lines later) ≡ fed (map cut_of lines) later
 unfolding fed grown
@@ -165,10 +165,10 @@ either-too_long true cut is = refl
 either-too_long false cut is = is
 
 -- a line that is too long is let go
-pub pending-let_go : (over : Bool) (left : List ℕ) → IsOneLine left → most_in_line < length left → pending over left ≡ pending true []
+pub pending-let_go : (over : Bool) (left : List ℕ) → IsOneLine left → most_line_bytes < length left → pending over left ≡ pending true []
 pending-let_go over left one long =
     ap (λ lines. over_first over (map cut_of lines)) one.alone
-    ∙ ap (λ cut. cut ∷ []) (either-too_long over (cut_of left) (ap (λ b. if b then TooLong else Line left) (lt-ltb most_in_line (length left) long)))
+    ∙ ap (λ cut. cut ∷ []) (either-too_long over (cut_of left) (ap (λ b. if b then TooLong else Line left) (lt-ltb most_line_bytes (length left) long)))
 
 over_first-false : (cuts : List Cut) → over_first false cuts ≡ cuts
 over_first-false [] = refl

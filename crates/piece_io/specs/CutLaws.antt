@@ -2,8 +2,8 @@
 use Rattle.std.specs.Prelude.{◌≡◌, ℕ, ◌==◌, List, [], ◌∷◌, ◌++◌, length, map, Bool, true, false, refl, if◌then◌else◌, nat_lt, None, MatchOption}
 use Rattle.std.proofs.Common.{sym, ◌∙◌, ap}
 use Rattle.std.proofs.lemmas.List.{append-nil, map-append}
-use Rattle.text_defs.specs.Text.{lines_of, onto_first, before_lines, all_but_last, last_line, whole_lines, unfinished}
-use Rattle.piece_io.specs.Cuts.{Cutting, cut_of, cuts_of, whole_cuts, all_cuts, cut_if_any, most_in_line, last_cut, first_cut, next_cut, last_to_come, to_come_of, to_come}
+use Rattle.text_defs.specs.Text.{lines_of, onto_first, before_lines, all_but_last, last_line, whole_lines, unfinished, most_line_bytes}
+use Rattle.piece_io.specs.Cuts.{Cutting, cut_of, cuts_of, whole_cuts, all_cuts, cut_if_any, last_cut, first_cut, next_cut, last_to_come, to_come_of, to_come}
 use Rattle.piece_io.specs.declared.line_cutter.Cut.{Cut}
 use Rattle.piece_io.specs.declared.line_cutter.Cut.TheVariants.{Line, TooLong}
 
@@ -139,7 +139,7 @@ last_cut-by false byte bytes = refl
 
 last_cut-ended : (line : List ℕ) → last_to_come (last_cut (cut_of line) true) ≡ cut_if_any line
 last_cut-ended [] = refl
-last_cut-ended (byte ∷ bytes) = last_cut-by (nat_lt most_in_line (length (byte ∷ bytes))) byte bytes
+last_cut-ended (byte ∷ bytes) = last_cut-by (nat_lt most_line_bytes (length (byte ∷ bytes))) byte bytes
 
 -- what was handed out, and what is to come, while more may come
 pub to_come-open : (handed_out cuts : List Cut) (bytes : List ℕ) → HasCut cuts → handed_out ++ cuts ≡ cuts_of bytes

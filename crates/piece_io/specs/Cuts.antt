@@ -1,17 +1,13 @@
 -- The lines of a stream of bytes, as a cutter hands them out: without their LFs, and without the bytes of a
 -- line that is too long. The rules are this project's own.
 use Rattle.std.specs.Prelude.{◌≡◌, ℕ, List, [], ◌∷◌, ◌++◌, length, map, nat_lt, Bool, true, false, if◌then◌else◌, Option, Some, None}
-use Rattle.text_defs.specs.Text.{lines_of, whole_lines, unfinished}
+use Rattle.text_defs.specs.Text.{lines_of, whole_lines, unfinished, most_line_bytes}
 use Rattle.piece_io.specs.declared.line_cutter.Cut.{Cut}
 use Rattle.piece_io.specs.declared.line_cutter.Cut.TheVariants.{Line, TooLong}
 
--- the most bytes that a line may have
-abbrev pub most_in_line : ℕ
-most_in_line = 1048576
-
 -- what is handed out for a line
 abbrev pub cut_of : List ℕ → Cut
-cut_of line = if nat_lt most_in_line (length line) then TooLong else Line line
+cut_of line = if nat_lt most_line_bytes (length line) then TooLong else Line line
 
 -- what is handed out for each line of these bytes; the last one is what follows the last LF, and may be empty
 abbrev pub cuts_of : List ℕ → List Cut

@@ -1,6 +1,6 @@
 ghost use Rattle.std.specs.Prelude.{◌≡◌, ℕ, ◌+◌, ◌<◌, ◌≤◌, ◌↔◌, IsTrue, List, [], ◌∷◌, ◌++◌, length, take, drop, false, true, Some, None, MatchOption, IfOk, OnOk, OnErr, if◌then◌else◌};
-ghost use Rattle.text_defs.specs.Text.{lines_of};
-ghost use Rattle.piece_io.specs.Cuts.{Cutting, cut_of, cuts_of, Feeds, next_cut, most_in_line};
+ghost use Rattle.text_defs.specs.Text.{lines_of, most_line_bytes};
+ghost use Rattle.piece_io.specs.Cuts.{Cutting, cut_of, cuts_of, Feeds, next_cut};
 ghost use Rattle.piece_io.specs.CutLaws.{HasCut};
 ghost use Rattle.piece_io.specs.CutRuns.{EachLineOnceInOrder};
 ghost use Rattle.piece_io.specs.Pending.{IsOneLine, EndsLine, pending};
@@ -18,7 +18,7 @@ pub enum Cut {
 }
 
 /// The most bytes that a line may have.
-pub const MOST_IN_LINE: usize = 1_048_576;
+pub const MOST_LINE_BYTES: usize = 1_048_576;
 
 /// Cuts a stream of bytes into lines at each LF, in whatever pieces the stream comes. Once the lines before it
 /// are handed out, what has come of a line that is too long is let go at the next feed, so that a stream without
@@ -158,9 +158,9 @@ fn line_end(bytes: &[u8], seen: usize) -> Option<usize>
 fn is_too_long(bytes: &[u8], seen: usize) -> bool
     requires within { seen ≤ length bytes.now }
     requires no_lf { IsOneLine (take seen bytes.now) }
-    ensures { IsTrue result ↔ ((most_in_line < length bytes.now) × IsOneLine bytes.now) }
+    ensures { IsTrue result ↔ ((most_line_bytes < length bytes.now) × IsOneLine bytes.now) }
 {
-    bytes.len() > MOST_IN_LINE && line_end(bytes, seen).is_none()
+    bytes.len() > MOST_LINE_BYTES && line_end(bytes, seen).is_none()
 }
 
 /// What is kept of a piece that comes first: of a line that is over the limit already, only its LF.
@@ -184,7 +184,7 @@ fn from_lf(bytes: &[u8]) -> &[u8]
 fn make_cut(alloc: Global, over: bool, line: &[u8]) -> Result<Cut, AllocError>
     ensures { IfOk result (λ r. r ≡ (if over then Cut.TooLong else cut_of line.now)) }
 {
-    if over || line.len() > MOST_IN_LINE {
+    if over || line.len() > MOST_LINE_BYTES {
         return Ok(Cut::TooLong);
     }
     Ok(Cut::Line(Bytes::of(alloc, line)?))

@@ -12,10 +12,13 @@ use thiserror::Error;
 /// Why a file could not be read whole.
 #[derive(Debug, Drop, Error)]
 pub enum FileEnd {
+    /// A read of it failed.
     #[error("Failed")]
     Failed,
+    /// It has more bytes than it may have, of which so many have come.
     #[error("TooLong")]
     TooLong { taken: u64 },
+    /// Memory was wanting.
     #[error("Memory")]
     Memory(AllocError),
 }

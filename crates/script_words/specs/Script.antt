@@ -6,7 +6,7 @@ use Rattle.serde_json.specs.Read.{read}
 use Rattle.serde_json.specs.Find.{as_array, as_number, as_str, as_u64}
 use Rattle.script_words.specs.declared.command.Command.{Command}
 use Rattle.script_words.specs.declared.command.Command.TheVariants.{Edit, Turn, Ask}
-use Rattle.text_defs.specs.Text.{is_utf8}
+use Rattle.text_defs.specs.Text.{is_utf8, most_line_bytes}
 use Rattle.text_defs.specs.Batch.{TextEdit}
 use Rattle.answer_defs.specs.declared.answer.Question.TheVariants as question
 use Rattle.answer_defs.specs.declared.refusal.Refusal.{Refusal}
@@ -16,10 +16,6 @@ use Rattle.answer_defs.specs.declared.refusal.Refusal.TheVariants as refusal
 pub data Reading : Type 0 where
   refused : Refusal → Reading
   command : Command → Reading
-
--- the longest line
-abbrev pub most_line_bytes : ℕ
-most_line_bytes = 1048576
 
 abbrev pub up_to : ℕ → ℕ → Option ℕ
 up_to most n = if nat_le n most then Some n else None

@@ -57,5 +57,6 @@ abbrev pub text_behind : Settings → List ℕ → List Reading → List ℕ
 text_behind settings text [] = text
 text_behind settings text (r ∷ rs) = text_behind settings (reading_step settings text r).text rs
 
+-- the open reply; no pattern is unread, since there is no grammar to read patterns of
 abbrev pub opened : List ℕ → Reply
 opened text = reply.Opened (line_count text) 0

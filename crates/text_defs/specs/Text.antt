@@ -85,6 +85,10 @@ whole_lines bytes = all_but_last (lines_of bytes)
 abbrev pub unfinished : List ℕ → List ℕ
 unfinished bytes = last_line (lines_of bytes)
 
+-- the most bytes that a line of a script may have
+abbrev pub most_line_bytes : ℕ
+most_line_bytes = 1048576
+
 -- whether a file's bytes are a text that is small enough
 abbrev pub is_text : List ℕ → Bool
 is_text bytes = is_utf8 bytes && (nat_le (length (text_of bytes)) most_chars && nat_le (line_count (text_of bytes)) most_lines)
