@@ -1,7 +1,7 @@
 -- Nodes that stand for items, one more at a time.
 use Rattle.std.proofs.Common.{ℕ, List, [], ◌∷◌, ◌++◌, Option}
 use Rattle.pattern_defs.specs.declared.nodes.PatNode.{PatNode}
-use Rattle.pattern_defs.specs.Patterns.{NodeLists, IsNode, AreNodes}
+use Rattle.pattern_defs.specs.Patterns.{NodeLists}
 use Rattle.syntax_defs.specs.declared.items.Item.{Item}
 use Rattle.syntax_defs.specs.PatternSyntax.{Parsed}
 use Rattle.syntax_defs.specs.PatternMeaning.{FitsItem, FitsItems, FitsLists}
@@ -17,7 +17,3 @@ FitsLists-push text p ls [] [] nodes items fits one = (one, tt)
 FitsLists-push text p ls [] (i ∷ lists) nodes items fits one = absurd fits
 FitsLists-push text p ls (n ∷ trees) [] nodes items fits one = absurd fits
 FitsLists-push text p ls (n ∷ trees) (i ∷ lists) nodes items fits one = (fits.0, FitsLists-push text p ls trees lists nodes items fits.1 one)
-
-pub AreNodes-push : (n g : ℕ) (nodes : List PatNode) (node : PatNode) → AreNodes n g nodes → IsNode n g node → AreNodes n g (nodes ++ node ∷ [])
-AreNodes-push n g [] node are is = (is, tt)
-AreNodes-push n g (first ∷ nodes) node are is = (are.0, AreNodes-push n g nodes node are.1 is)

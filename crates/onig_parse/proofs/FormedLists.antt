@@ -1,5 +1,5 @@
 -- Items that name earlier lists and groups up to a number.
-use Rattle.std.proofs.Common.{ℕ, ◌+◌, ◌<◌, ◌≤◌, List, [], ◌∷◌, ◌++◌, length, arith}
+use Rattle.std.proofs.Common.{ℕ, zero, suc, ◌+◌, ◌<◌, ◌≤◌, List, [], ◌∷◌, ◌++◌, length, map, get_or, arith}
 use Rattle.pattern_defs.specs.declared.nodes.ListId.{ListId}
 use Rattle.pattern_defs.specs.Patterns.{AllIds}
 use Rattle.syntax_defs.specs.declared.items.GroupName.{GroupName}
@@ -53,3 +53,16 @@ AreNames-raise g k (known ∷ names) more are =
 pub AreNames-push : (g : ℕ) (names : List GroupName) (known : GroupName) → AreNames g names → 0 < known.number → known.number ≤ g → AreNames g (names ++ known ∷ [])
 AreNames-push g [] known are low high = (low, high, tt)
 AreNames-push g (first ∷ names) known are low high = (are.0, are.1, AreNames-push g names known are.2 low high)
+
+-- what is read out of lists
+
+pub AreItems-at : (text : List ℕ) (n g : ℕ) (items : List Item) (k : ℕ) (d : Item) → AreItems text n g items → k < length items → IsItem text n g (get_or items k d)
+AreItems-at text n g [] k d are h = absurd (omega arith)
+AreItems-at text n g (item ∷ items) zero d are h = are.0
+AreItems-at text n g (item ∷ items) (suc k) d are h = AreItems-at text n g items k d are.1 (omega arith)
+
+-- lists that are seen by a function
+pub AreItemLists-at : {X : Type 0} (f : X → List Item) (text : List ℕ) (n g : ℕ) (xs : List X) (k m : ℕ) (d : X) → AreItemLists text n g (map f xs) → k < length xs → n + k ≤ m → AreItems text m g (f (get_or xs k d))
+AreItemLists-at f text n g [] k m d are h room = absurd (omega arith)
+AreItemLists-at f text n g (x ∷ xs) zero m d are h room = AreItems-widen text n m g g (f x) (omega arith) (omega arith) are.0
+AreItemLists-at f text n g (x ∷ xs) (suc k) m d are h room = AreItemLists-at f text (n + 1) g xs k m d are.1 (omega arith) (omega arith)

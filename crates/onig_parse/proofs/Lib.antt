@@ -4,7 +4,9 @@ pub mod BodySteps
 pub mod FitsLemmas
 pub mod ReadingLemmas
 pub mod FormedLists
+pub mod FormedNodes
 pub mod FormedParts
 pub mod FormedGroups
 pub mod FormedSteps
 pub mod FormedTexts
+pub mod LateLemmas

@@ -1,5 +1,5 @@
 -- Lists of nodes that name earlier lists and groups up to a number.
-use Rattle.std.proofs.Common.{◌≡◌, ℕ, zero, suc, ◌+◌, ◌<◌, ◌≤◌, List, [], ◌∷◌, ◌++◌, length, map, get_or, take, refl, ap, sym, ◌∙◌, arith}
+use Rattle.std.proofs.Common.{◌≡◌, ℕ, zero, suc, ◌+◌, ◌<◌, ◌≤◌, List, [], ◌∷◌, ◌++◌, length, map, get_or, take, ap, sym, ◌∙◌, arith}
 use Rattle.std.proofs.lemmas.List.{take_more, map_push}
 use Rattle.std.specs.Prelude.{slice_get, unwrap_or}
 use Rattle.pattern_defs.specs.declared.nodes.ListId.{ListId}
@@ -28,14 +28,6 @@ behind low (id ∷ ids) = behind (id.0 + 1) ids
 pub RiseFrom-push : (low : ℕ) (ids : List ListId) (id : ListId) → RiseFrom low ids → behind low ids ≤ id.0 → RiseFrom low (ids ++ id ∷ [])
 RiseFrom-push low [] id rise h = (h, tt)
 RiseFrom-push low (first ∷ ids) id rise h = (rise.0, RiseFrom-push (first.0 + 1) ids id rise.1 h)
-
-pub behind-push : (low : ℕ) (ids : List ListId) (id : ListId) → behind low (ids ++ id ∷ []) ≡ id.0 + 1
-behind-push low [] id = refl
-behind-push low (first ∷ ids) id = behind-push (first.0 + 1) ids id
-
-pub AllArms-push : (n : ℕ) (arms : List Arm) (arm : Arm) → AllArms n arms → arm.body.0 < n → AllArms n (arms ++ arm ∷ [])
-AllArms-push n [] arm all h = (h, tt)
-AllArms-push n (first ∷ arms) arm all h = (all.0, AllArms-push n arms arm all.1 h)
 
 -- what names lists below a number and groups up to one does so for greater ones
 IsNode-widen : (a b g k : ℕ) (node : PatNode) → a ≤ b → g ≤ k → IsNode a g node → IsNode b k node

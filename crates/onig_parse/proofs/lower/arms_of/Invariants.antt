@@ -1,10 +1,6 @@
 use Rattle.std.proofs.Common.{◌≡◌, take, map}
-use Rattle.pattern_defs.specs.Patterns.{AllArms}
 use Rattle.syntax_defs.specs.PatternMeaning.{arm_of}
 use Rattle.onig_parse.proofs.lower.arms_of.Given as goal
 
 abbrev pub invariant-loop-id : goal.invariant-loop-id
-invariant-loop-id l = record {
-  same : l.arms ≡ map (arm_of l.lengths) (take l.id-index l.ids);
-  there : AllArms l.count l.arms;
-}
+invariant-loop-id l = l.arms ≡ map (arm_of l.lengths) (take l.id-index l.ids)
