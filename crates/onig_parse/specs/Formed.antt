@@ -1,6 +1,7 @@
 -- What reading gives: items that name only lists before theirs, and groups that are there.
 use Rattle.std.specs.Prelude.{ℕ, ◌+◌, ◌<◌, ◌≤◌, List, [], ◌∷◌, length, drop, Bool, Result, Ok, Err}
 use Rattle.pattern_defs.specs.Patterns.{AllIds, RiseFrom, AreBounds}
+use Rattle.syntax_defs.specs.Limits.{most_levels}
 use Rattle.syntax_defs.specs.declared.items.GroupName.{GroupName}
 use Rattle.syntax_defs.specs.declared.items.Options.{Options}
 use Rattle.syntax_defs.specs.declared.items.Item.{Item}
@@ -16,7 +17,7 @@ IsRead (Err fault) = ⊥
 -- a single item stands at a place of the text, inside so many forms
 pub record IsSingle (text : List ℕ) (at : ℕ) (options : Options) (forms : ℕ) : Type 0 where
   pub place : at ≤ length text
-  pub depth : forms ≤ 100
+  pub depth : forms ≤ most_levels
   pub read : IsRead (single_at options forms at (drop at text))
 
 -- the item names only lists with numbers below n, and groups from 1 to the number of groups

@@ -1,5 +1,6 @@
 -- How a reader keeps how far a text is read, and the body of a group that is being read.
 use Rattle.std.specs.Prelude.{◌≤◌, length, map}
+use Rattle.syntax_defs.specs.Limits.{most_pattern_chars}
 use Rattle.syntax_defs.specs.PatternSyntax.{Seen, Body, Parsed}
 use Rattle.onig_parse.specs.declared.reader.Reader.TheInside as reader
 use Rattle.onig_parse.specs.declared.parsed.ParsedText.TheInside as parsed
@@ -16,7 +17,7 @@ seen_of r = record {
 
 pub record IsReader (r : reader.Inside) : Type 0 where
   pub place : r.at ≤ length r.text.items
-  pub short : length r.text.items ≤ 65_536
+  pub short : length r.text.items ≤ most_pattern_chars
 
 abbrev pub body_of : body.Inside → Body
 body_of b = record { ended = b.ended; done = b.done.items; last = b.last.items; repeats = b.repeats }

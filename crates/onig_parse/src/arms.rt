@@ -4,6 +4,7 @@ ghost use Rattle.syntax_defs.specs.Reading.{Answers};
 ghost use Rattle.syntax_defs.specs.PatternSyntax.{add, adds, behind_comment, comment_length, go_on, number_item, is_lazy, is_possessive, past, quoted_item, reference_item, repeat_at, rest_of, signed, target_by, target_of};
 ghost use Rattle.syntax_defs.specs.declared.items.Item.TheVariants as items;
 ghost use Rattle.onig_parse.specs.Reading.{GivesStep, GivesNow};
+ghost use Rattle.syntax_defs.specs.Limits.{most_repeats, most_pattern_chars};
 
 use crate::body::OpenBody;
 use crate::head::{behind, is_number, target_at, word_from};
@@ -11,12 +12,12 @@ use crate::reader::Reader;
 use crate::sight::{digit_count, number_of, split_digits};
 use crate::steps::{is_above, is_below, is_lazy, is_possessive, one_item};
 use pattern_defs::Anchor;
-use syntax_defs::{Bounds, Item, Options, PatternRefusal, Span, Target};
+use syntax_defs::{Bounds, Item, MOST_COUNT, MOST_REPEATS, Options, PatternRefusal, Span, Target};
 
 /// Up to where a comment reaches whose characters from the `(?#` on are given, where it is closed. A backslash takes
 /// the character after it along.
 fn comment_length(cs: &[char]) -> Option<usize>
-    requires { length cs.now ≤ 65_536 }
+    requires { length cs.now ≤ most_pattern_chars }
     ensures { result ≡ comment_length false 3 cs.now }
 {
     let mut escaped = false;
@@ -161,7 +162,7 @@ impl Reader {
         bounds: Bounds,
         count: u32,
     ) -> Result<bool, PatternRefusal>
-        requires few { count < 8 }
+        requires few { count < most_repeats }
         ensures { GivesStep result body.new self.new
             (signed (is_lazy bounds.form (drop bounds.length (rest_of self.old))) (is_possessive bounds.form (drop bounds.length (rest_of self.old))) bounds count body.old self.old) }
     {
@@ -186,11 +187,13 @@ impl Reader {
         let Some(count) = body.repeats() else {
             return Err(self.here().bad());
         };
-        if bounds.least > 100_000 || is_above(100_000, bounds.most) {
+        if bounds.least > MOST_COUNT || is_above(MOST_COUNT, bounds.most) {
             return Err(self.here().bad());
         }
-        if count >= 8 {
-            return Err(PatternRefusal::TooDeep { depth: 9 });
+        if count >= MOST_REPEATS {
+            return Err(PatternRefusal::TooDeep {
+                depth: u64::from(MOST_REPEATS) + 1,
+            });
         }
         if is_below(bounds.most, bounds.least) {
             return Err(self.here().left_out());

@@ -2,6 +2,7 @@ ghost use Rattle.std.specs.Prelude.{◌≡◌, ◌+◌, ◌-◌, ◌≤◌, ◌<
 ghost use Rattle.syntax_defs.specs.Reading.{Answers};
 ghost use Rattle.syntax_defs.specs.PatternSyntax.{add, adds, body_at, closed, closed_by, empty_body, group_at, made, no_options, opened, parse, parsed_of, rest_of, single_item, start, step, step_by, steps, whole_by};
 ghost use Rattle.onig_parse.specs.Reading.{GivesStep, GivesNow, GivesPlace};
+ghost use Rattle.syntax_defs.specs.Limits.{most_levels};
 
 use crate::body::OpenBody;
 use crate::head::{Extent, behind, head_of, options_inside};
@@ -10,7 +11,7 @@ use crate::sight::sight_of;
 use crate::single::read_single;
 use crate::steps::one_item;
 use std::alloc::AllocError;
-use syntax_defs::{Head, Item, Options, PatternRefusal, Sight};
+use syntax_defs::{Head, Item, MOST_LEVELS, Options, PatternRefusal, Sight};
 
 impl Reader {
     /// What the head of a form does. A second group of one name is left out.
@@ -88,7 +89,7 @@ impl Reader {
         options: Options,
         depth: u32,
     ) -> Result<bool, PatternRefusal>
-        requires { depth ≤ 100 }
+        requires { depth ≤ most_levels }
         ensures { GivesStep result body.new self.new (adds body.old (single_item options depth self.old)) }
     {
         let at = self.place();
@@ -100,7 +101,7 @@ impl Reader {
     /// The items of the form in parentheses that begins here. So many forms may open in it, one in another.
     #[cycle(forms)]
     fn group(&mut self, options: Options, levels: u32) -> Result<Vec<Item>, PatternRefusal>
-        requires { levels ≤ 100 }
+        requires { levels ≤ most_levels }
         ensures { GivesNow (λ items. items.items) result self.new (group_at (body_at levels) options self.old) }
     {
         let here = self.here();
@@ -121,7 +122,7 @@ impl Reader {
         options: Options,
         levels: u32,
     ) -> Result<bool, PatternRefusal>
-        requires { levels ≤ 100 }
+        requires { levels ≤ most_levels }
         ensures { GivesStep result body.new self.new (adds body.old (group_at (body_at levels) options self.old)) }
     {
         let items = self.group(options, levels)?;
@@ -137,7 +138,7 @@ impl Reader {
         options: Options,
         levels: u32,
     ) -> Result<bool, PatternRefusal>
-        requires { levels ≤ 100 }
+        requires { levels ≤ most_levels }
         ensures { GivesStep result body.new self.new (step (body_at levels) levels options body.old self.old) }
     {
         match sight_of(options, self.rest()) {
@@ -157,18 +158,20 @@ impl Reader {
             Sight::Edge { anchor, length } => self.take_edge(body, anchor, length),
             Sight::Number => self.take_number(body, options),
             Sight::Reference => self.take_reference(body, options),
-            Sight::Single => self.take_single(body, options, 100 - levels),
+            Sight::Single => self.take_single(body, options, MOST_LEVELS - levels),
         }
     }
 
     /// The body of a form, up to its `)` or the end of the text.
     #[cycle(forms)]
     pub(crate) fn body(&mut self, options: Options, levels: u32) -> Result<OpenBody, PatternRefusal>
-        requires { levels ≤ 101 }
+        requires { levels ≤ most_levels + 1 }
         ensures { GivesNow (λ body. body) result self.new (body_at levels options self.old) }
     {
         if levels == 0 {
-            return Err(PatternRefusal::TooDeep { depth: 101 });
+            return Err(PatternRefusal::TooDeep {
+                depth: u64::from(MOST_LEVELS) + 1,
+            });
         }
         let mut body = OpenBody::new(self.alloc());
         let mut left = self.text().len() + 1;

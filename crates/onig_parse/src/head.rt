@@ -5,6 +5,7 @@ ghost use Rattle.syntax_defs.specs.Reading.{Answers};
 ghost use Rattle.syntax_defs.specs.Heads.{angle_head, behind_letters, behind_word, closed_word, head_at, inside, is_name, is_name_or_number, is_number, letter_count, letter_head, letters, minus_head, named_head, option_end, option_head, question_head, switched, with_options, word, word_at, word_count};
 ghost use Rattle.syntax_defs.specs.PatternSyntax.{word_from};
 ghost use Rattle.syntax_defs.specs.Sights.{is_empty, is_number_start};
+ghost use Rattle.syntax_defs.specs.Limits.{most_pattern_chars};
 
 use crate::sight::begins_with;
 use char_sets::is_word_char;
@@ -119,7 +120,7 @@ fn closed_word(
     rest: &[char],
 ) -> Result<Span, PatternRefusal>
     requires from { from ≤ 100_000 }
-    requires word { length word.now ≤ 65_536 }
+    requires word { length word.now ≤ most_pattern_chars }
     ensures place { Answers (λ x. x) result (closed_word close item.begin item.end from word.now rest.now) }
     ensures inside { IfOk result (λ span. span.to ≤ 200_000) }
 {
@@ -136,7 +137,7 @@ fn closed_word(
 /// The place of the name that begins at `from`, up to the character that closes it.
 fn name_at(item: Extent, close: char, from: usize, cs: &[char]) -> Result<Span, PatternRefusal>
     requires from { from ≤ 100_000 }
-    requires short { length cs.now ≤ 65_536 }
+    requires short { length cs.now ≤ most_pattern_chars }
     ensures place { Answers (λ x. x) result (word_at is_name close item.begin item.end from cs.now) }
     ensures inside { IfOk result (λ span. span.to ≤ 200_000) }
 {
@@ -156,7 +157,7 @@ pub(crate) fn target_at(
     cs: &[char],
 ) -> Result<Span, PatternRefusal>
     requires from { from ≤ 100_000 }
-    requires short { length cs.now ≤ 65_536 }
+    requires short { length cs.now ≤ most_pattern_chars }
     ensures place { Answers (λ x. x) result (word_at is_name_or_number close item.begin item.end from cs.now) }
     ensures inside { IfOk result (λ span. span.to ≤ 200_000) }
 {
@@ -228,9 +229,9 @@ fn minus_head(
     on: &[char],
     cs: &[char],
 ) -> Result<(Head, usize), PatternRefusal>
-    requires begin { item.begin ≤ 65_536 }
-    requires on { length on.now ≤ 65_536 }
-    requires short { length cs.now ≤ 65_536 }
+    requires begin { item.begin ≤ most_pattern_chars }
+    requires on { length on.now ≤ most_pattern_chars }
+    requires short { length cs.now ≤ most_pattern_chars }
     ensures { Answers (λ x. x) result (minus_head options on.now item.begin item.end cs.now) }
 {
     let (off, rest) = split_letters(cs);
@@ -240,8 +241,8 @@ fn minus_head(
 
 /// The head of a form that changes options, what stands behind its `(?` given.
 fn option_head(item: Extent, options: Options, cs: &[char]) -> Result<(Head, usize), PatternRefusal>
-    requires begin { item.begin ≤ 65_536 }
-    requires short { length cs.now ≤ 65_536 }
+    requires begin { item.begin ≤ most_pattern_chars }
+    requires short { length cs.now ≤ most_pattern_chars }
     ensures { Answers (λ x. x) result (option_head options item.begin item.end cs.now) }
 {
     let (on, rest) = split_letters(cs);
@@ -254,8 +255,8 @@ fn option_head(item: Extent, options: Options, cs: &[char]) -> Result<(Head, usi
 }
 
 fn named_head(item: Extent, close: char, cs: &[char]) -> Result<(Head, usize), PatternRefusal>
-    requires begin { item.begin ≤ 65_536 }
-    requires short { length cs.now ≤ 65_536 }
+    requires begin { item.begin ≤ most_pattern_chars }
+    requires short { length cs.now ≤ most_pattern_chars }
     ensures { Answers (λ x. x) result (named_head close item.begin item.end (item.begin + 3) cs.now) }
 {
     let name = name_at(item, close, item.begin + 3, cs)?;
@@ -264,8 +265,8 @@ fn named_head(item: Extent, close: char, cs: &[char]) -> Result<(Head, usize), P
 
 /// What stands behind `(?<`.
 fn angle_head(item: Extent, cs: &[char]) -> Result<(Head, usize), PatternRefusal>
-    requires begin { item.begin ≤ 65_536 }
-    requires short { length cs.now ≤ 65_536 }
+    requires begin { item.begin ≤ most_pattern_chars }
+    requires short { length cs.now ≤ most_pattern_chars }
     ensures { Answers (λ x. x) result (angle_head item.begin item.end cs.now) }
 {
     match cs {
@@ -282,8 +283,8 @@ fn question_head(
     options: Options,
     cs: &[char],
 ) -> Result<(Head, usize), PatternRefusal>
-    requires begin { item.begin ≤ 65_536 }
-    requires short { length cs.now ≤ 65_536 }
+    requires begin { item.begin ≤ most_pattern_chars }
+    requires short { length cs.now ≤ most_pattern_chars }
     ensures { Answers (λ x. x) result (question_head options item.begin item.end cs.now) }
 {
     match cs {
@@ -304,8 +305,8 @@ pub(crate) fn head_of(
     options: Options,
     cs: &[char],
 ) -> Result<(Head, usize), PatternRefusal>
-    requires begin { item.begin ≤ 65_536 }
-    requires short { length cs.now ≤ 65_536 }
+    requires begin { item.begin ≤ most_pattern_chars }
+    requires short { length cs.now ≤ most_pattern_chars }
     ensures { Answers (λ x. x) result (head_at options item.begin item.end cs.now) }
 {
     match cs {

@@ -4,13 +4,13 @@ ghost use Rattle.syntax_defs.specs.Lengths.{capped, choice_length, is_length, it
 
 use pattern_defs::ListId;
 use std::alloc::{AllocError, Global};
-use syntax_defs::Item;
+use syntax_defs::{Item, MOST_LENGTH};
 
-/// A length, or none where it is open. One above 2^24 counts as open.
+/// A length, or none where it is open. One above the limit counts as open.
 fn capped(n: u64) -> Option<u32>
     ensures { result ≡ capped n }
 {
-    if n <= 16_777_216 {
+    if n <= u64::from(MOST_LENGTH) {
         Some(n as u32)
     } else {
         None

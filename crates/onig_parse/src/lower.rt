@@ -3,6 +3,7 @@ ghost use Rattle.syntax_defs.specs.Lengths.{late_fault, late_in, late_place, len
 ghost use Rattle.syntax_defs.specs.PatternMeaning.{FitsItem, FitsItems, IsSetRead, StandsFor, arm_of};
 ghost use Rattle.syntax_defs.specs.Singles.{single_at};
 ghost use Rattle.onig_parse.specs.Formed.{AreItems, IsFormed, IsItem, IsSingle};
+ghost use Rattle.syntax_defs.specs.Limits.{most_pattern_chars};
 
 use crate::draft::PatternDraft;
 use crate::lengths::length_of;
@@ -52,7 +53,7 @@ fn set_again(
     options: Options,
     depth: u32,
 ) -> Result<CharSet, AllocError>
-    requires short { length text.now ≤ 65_536 }
+    requires short { length text.now ≤ most_pattern_chars }
     requires there { IsSingle text.now at options depth }
     ensures { IfOk result (λ set. IsSetRead set (single_at options depth at (drop at text.now))) }
 {
@@ -71,7 +72,7 @@ fn lower_item(
     lengths: &[Option<u32>],
     item: &Item,
 ) -> Result<PatNode, AllocError>
-    requires short { length text.now ≤ 65_536 }
+    requires short { length text.now ≤ most_pattern_chars }
     requires formed { IsItem text.now (length parsed.now.lists) parsed.now.groups item.now }
     requires kept { late_place text.now parsed.now lengths.now item.now ≡ None }
     ensures { IfOk result (λ node. FitsItem text.now parsed.now lengths.now node item.now) }
@@ -126,7 +127,7 @@ fn lower_items(
     lengths: &[Option<u32>],
     items: &[Item],
 ) -> Result<Vec<PatNode>, AllocError>
-    requires short { length text.now ≤ 65_536 }
+    requires short { length text.now ≤ most_pattern_chars }
     requires formed { AreItems text.now (length parsed.now.lists) parsed.now.groups items.now }
     requires kept { late_in text.now parsed.now lengths.now None items.now ≡ None }
     ensures { IfOk result (λ nodes. FitsItems text.now parsed.now lengths.now nodes.items items.now) }
@@ -145,7 +146,7 @@ pub(crate) fn lower(
     parsed: &ParsedText,
     lengths: &[Option<u32>],
 ) -> Result<Pattern, AllocError>
-    requires short { length text.now ≤ 65_536 }
+    requires short { length text.now ≤ most_pattern_chars }
     requires lengths { lengths.now ≡ lengths_of parsed.now.lists }
     requires formed { IsFormed text.now parsed.now }
     requires kept { late_fault text.now parsed.now ≡ None }

@@ -3,6 +3,7 @@ ghost use Rattle.std.specs.Str.{chars};
 ghost use Rattle.syntax_defs.specs.Lengths.{read_pattern, read_within, tested, kept_unless};
 ghost use Rattle.syntax_defs.specs.PatternMeaning.{IsReadAs};
 ghost use Rattle.onig_parse.specs.Reading.{GivesPattern};
+ghost use Rattle.syntax_defs.specs.Limits.{most_pattern_chars};
 
 use crate::late::late_fault;
 use crate::lengths::lengths_of;
@@ -10,7 +11,7 @@ use crate::lower::lower;
 use crate::parse::parse;
 use crate::pattern::Pattern;
 use std::alloc::{AllocError, Global};
-use syntax_defs::PatternRefusal;
+use syntax_defs::{MOST_PATTERN_CHARS, PatternRefusal};
 
 /// The characters of a text.
 fn chars_of(alloc: Global, text: &str) -> Result<Vec<char>, AllocError>
@@ -21,7 +22,7 @@ fn chars_of(alloc: Global, text: &str) -> Result<Vec<char>, AllocError>
 
 /// The pattern that a text is.
 fn read_chars(alloc: Global, text: &[char]) -> Result<Pattern, PatternRefusal>
-    requires { length text.now ≤ 65_536 }
+    requires { length text.now ≤ most_pattern_chars }
     ensures { GivesPattern text.now result (read_within false text.now) }
 {
     let parsed = parse(alloc, text)?;
@@ -40,7 +41,7 @@ impl Pattern {
     {
         let text = chars_of(alloc, text)?;
         let count = text.len();
-        if count > 65_536 {
+        if count > MOST_PATTERN_CHARS {
             return Err(PatternRefusal::TooLong {
                 count: count as u64,
             });

@@ -1,6 +1,7 @@
 ghost use Rattle.std.specs.Prelude.{◌≡◌, ◌+◌, ◌≤◌, [], ◌∷◌, ◌++◌, length, slice_get, IfOk, OnOk};
 ghost use Rattle.std.specs.List.{list_any};
 ghost use Rattle.syntax_defs.specs.PatternSyntax.{at_place, is_named, next_id, parsed_of, past, rest_of, start, with_group, with_list};
+ghost use Rattle.syntax_defs.specs.Limits.{most_pattern_chars};
 
 use crate::count::counted;
 use crate::head::word_from;
@@ -36,7 +37,7 @@ impl Model for Reader {
 
 impl Reader {
     pub(crate) fn new(alloc: Global, text: Vec<char>) -> Reader
-        requires { length text.items ≤ 65_536 }
+        requires { length text.items ≤ most_pattern_chars }
         ensures { result ≡ start text.items }
     {
         Reader {
@@ -56,7 +57,7 @@ impl Reader {
     /// The whole text.
     pub(crate) fn text(&self) -> &[char]
         ensures text { result.now ≡ self.now.text }
-        ensures short { length result.now ≤ 65_536 }
+        ensures short { length result.now ≤ most_pattern_chars }
     {
         self.text.as_slice()
     }
@@ -65,7 +66,7 @@ impl Reader {
     pub(crate) fn place(&self) -> usize
         ensures place { result ≡ self.now.place }
         ensures inside { result ≤ length self.now.text }
-        ensures short { result ≤ 65_536 }
+        ensures short { result ≤ most_pattern_chars }
     {
         self.at
     }
@@ -73,7 +74,7 @@ impl Reader {
     /// What is still to be read.
     pub(crate) fn rest(&self) -> &[char]
         ensures rest { result.now ≡ rest_of self.now }
-        ensures short { length result.now ≤ 65_536 }
+        ensures short { length result.now ≤ most_pattern_chars }
     {
         &self.text[self.at..]
     }

@@ -2,6 +2,7 @@ ghost use Rattle.std.specs.Prelude.{◌≡◌, ◌≤◌, length, drop, take, mi
 ghost use Rattle.std.specs.List.{prefix_len};
 ghost use Rattle.syntax_defs.specs.declared.items.Form.TheVariants.{Sign};
 ghost use Rattle.syntax_defs.specs.Sights.{begins_with, brace_sight, behind_digits, count_sight, digit_count, digits, is_blank, is_number_start, most_of, number_of, paren_sight, plain_sight, range_sight, sight_at, slash_sight, with_digit};
+ghost use Rattle.syntax_defs.specs.Limits.{most_pattern_chars};
 
 use pattern_defs::Anchor;
 use syntax_defs::{Bounds, Form, Options, Sight};
@@ -58,8 +59,8 @@ fn most_of(digits: &[char]) -> Option<u32>
 
 /// A repeat, or the character itself where the digits and the end of an interval don't fit.
 fn range_sight(least: &[char], most: &[char], rest: &[char]) -> Sight
-    requires least { length least.now ≤ 65_536 }
-    requires most { length most.now ≤ 65_536 }
+    requires least { length least.now ≤ most_pattern_chars }
+    requires most { length most.now ≤ most_pattern_chars }
     ensures { result ≡ range_sight least.now most.now rest.now }
 {
     if begins_with('}', rest) && !(least.is_empty() && most.is_empty()) {
@@ -86,8 +87,8 @@ fn paren_sight(cs: &[char]) -> Sight
 
 /// What stands behind the first digits of an interval.
 fn count_sight(least: &[char], rest: &[char]) -> Sight
-    requires least { length least.now ≤ 65_536 }
-    requires rest { length rest.now ≤ 65_536 }
+    requires least { length least.now ≤ most_pattern_chars }
+    requires rest { length rest.now ≤ most_pattern_chars }
     ensures { result ≡ count_sight least.now rest.now }
 {
     match rest {
@@ -107,7 +108,7 @@ fn count_sight(least: &[char], rest: &[char]) -> Sight
 
 /// What stands behind a `{`.
 fn brace_sight(cs: &[char]) -> Sight
-    requires { length cs.now ≤ 65_536 }
+    requires { length cs.now ≤ most_pattern_chars }
     ensures { result ≡ brace_sight cs.now }
 {
     let (least, rest) = split_digits(cs);
@@ -146,7 +147,7 @@ fn is_blank(c: char) -> bool
 
 /// What stands at the front of the rest of a text.
 pub(crate) fn sight_of(options: Options, cs: &[char]) -> Sight
-    requires { length cs.now ≤ 65_536 }
+    requires { length cs.now ≤ most_pattern_chars }
     ensures { result ≡ sight_at options cs.now }
 {
     let [first, rest @ ..] = cs else {

@@ -3,6 +3,7 @@ ghost use Rattle.char_sets.specs.Ranges.{IsSetOf};
 ghost use Rattle.syntax_defs.specs.Reading.{Gives};
 ghost use Rattle.syntax_defs.specs.Escapes.{escape_at};
 ghost use Rattle.syntax_defs.specs.Singles.{escaped_single, single_at};
+ghost use Rattle.syntax_defs.specs.Limits.{most_levels, most_pattern_chars};
 
 use char_sets::CharSet;
 use onig_class::{Escaped, dot, one_char, read_class, read_escape};
@@ -17,7 +18,7 @@ fn read_escaped(
     fold: bool,
 ) -> Result<(CharSet, usize), PatternRefusal>
     requires there { slice_get text.now at ≡ Some 92 }
-    requires short { length text.now ≤ 65_536 }
+    requires short { length text.now ≤ most_pattern_chars }
     ensures { Gives IsSetOf text.now result (escaped_single fold (escape_at at (drop at text.now))) }
 {
     let (escaped, next) = read_escape(alloc, text, at)?;
@@ -35,9 +36,9 @@ pub(crate) fn read_single(
     options: Options,
     depth: u32,
 ) -> Result<(CharSet, usize), PatternRefusal>
-    requires short { length text.now ≤ 65_536 }
-    requires place { at ≤ 65_536 }
-    requires few { depth ≤ 100 }
+    requires short { length text.now ≤ most_pattern_chars }
+    requires place { at ≤ most_pattern_chars }
+    requires few { depth ≤ most_levels }
     ensures { Gives IsSetOf text.now result (single_at options depth at (drop at text.now)) }
 {
     match text.get(at) {

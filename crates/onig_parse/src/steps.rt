@@ -2,6 +2,7 @@ ghost use Rattle.std.specs.Prelude.{◌≡◌, ◌∷◌, [], ◌++◌, ◌+◌,
 ghost use Rattle.std.specs.List.{prefix_len};
 ghost use Rattle.syntax_defs.specs.PatternSyntax.{Seen, Body, Stepped, BodyReader, after_bar, atomic_of, behind_comment, body_items, body_list, comment_length, go_on, is_above, is_below, is_lazy, is_possessive, next_id, open_items, past, plain_repeat, possessive_repeat, repeat_at, repeat_on, rest_of, signed, step_by, with_list};
 ghost use Rattle.onig_parse.specs.Reading.{GivesStep, GivesNow};
+ghost use Rattle.syntax_defs.specs.Limits.{most_repeats, most_pattern_chars};
 
 use crate::body::OpenBody;
 use crate::head::{Extent, behind};
@@ -60,7 +61,7 @@ impl Reader {
     /// The item that begins here.
     pub(crate) fn here(&self) -> Extent
         ensures extent { result ≡ record { begin = self.now.place; end = length self.now.text } }
-        ensures short { result.begin ≤ 65_536 }
+        ensures short { result.begin ≤ most_pattern_chars }
     {
         Extent {
             begin: self.place(),
@@ -121,7 +122,7 @@ impl Reader {
         more: usize,
         count: u32,
     ) -> Result<bool, PatternRefusal>
-        requires few { count < 8 }
+        requires few { count < most_repeats }
         requires short { more < 8 }
         ensures { GivesStep result body.new self.new (plain_repeat bounds greedy more count body.old self.old) }
     {
@@ -144,7 +145,7 @@ impl Reader {
         bounds: Bounds,
         count: u32,
     ) -> Result<bool, PatternRefusal>
-        requires few { count < 8 }
+        requires few { count < most_repeats }
         ensures { GivesStep result body.new self.new (possessive_repeat bounds count body.old self.old) }
     {
         let inner = self.end_list(body.take_last(self.alloc()))?;

@@ -4,7 +4,7 @@ use Rattle.onig_parse.proofs.BodySteps.{body_at-none, body_at-steps, steps-more,
 use Rattle.onig_parse.proofs.reader.Reader.+forms.Goals as goal
 
 pub body-returns-then-levels-eq0 : goal.body-returns-then-levels-eq0
-body-returns-then-levels-eq0 t c = body_at-none _ _ _ c.if-levels-eq0.true
+body-returns-then-levels-eq0 t c = rw c.from.ensures (body_at-none _ _ _ c.if-levels-eq0.true)
 
 pub body-loop-left-init : goal.body-loop-left-init
 body-loop-left-init t c =
