@@ -6,3 +6,7 @@ pub mod OpenSteps
 pub mod RowSteps
 pub mod Stack
 pub mod TextSteps
+pub mod RowPlaces
+pub mod ClosedRows
+pub mod PairedRows
+pub mod NestedPairs

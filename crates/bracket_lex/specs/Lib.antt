@@ -1,3 +1,4 @@
 pub mod Longest
 pub mod MarkedLine
+pub mod PairLaws
 pub mod Pairing

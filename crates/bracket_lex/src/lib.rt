@@ -6,6 +6,7 @@ pub mod line_marks;
 pub mod mark_lines;
 mod open_marks;
 pub mod paired;
+pub mod pairing_laws;
 mod partners;
 mod text_marks;
 
@@ -14,6 +15,7 @@ pub use line_marks::LineMarks;
 pub use mark_lines::MarkLines;
 pub use paired::Paired;
 pub use pairing_defs::{BracketText, LineMark, Mark, Role, Row};
+pub use pairing_laws::{pairs_are_nested, partners_belong_together};
 
 #[cfg(test)]
 mod tests;

@@ -1,0 +1,16 @@
+ghost use Rattle.bracket_lex.specs.PairLaws.{PartnersAreMutual, OpenersComeFirst, PartnersAreAlike, TheUnpairedHaveColourSix, PairsNeverCross, OpenersAreBelowTheLimit, PartnersAreBelowTheLimit};
+
+/// However a text's marks are, the rows that `Paired` gives belong together in pairs of an opener and a closer.
+pub fn partners_belong_together()
+    ensures mutually { PartnersAreMutual }
+    ensures in_order { OpenersComeFirst }
+    ensures alike { PartnersAreAlike }
+    ensures unpaired { TheUnpairedHaveColourSix }
+{}
+
+/// Pairs never cross, and are nested less deep than the limit says.
+pub fn pairs_are_nested()
+    ensures inside { PairsNeverCross }
+    ensures openers { OpenersAreBelowTheLimit }
+    ensures partners { PartnersAreBelowTheLimit }
+{}
