@@ -266,6 +266,30 @@ fn copied_batch(
     Ok(edits)
 }
 
+/// What reading a file of so many copies answers.
+fn read_answer(alloc: Global, unit: &str, count: u32) -> Result<String, AllocError> {
+    let file = copies(alloc, unit, count)?;
+    match Text::from_bytes(alloc, file.as_bytes()) {
+        Ok(text) => summary(alloc, &text),
+        Err(refusal) => format!(in alloc; "{refusal:?}"),
+    }
+}
+
+#[test]
+fn files_are_refused_just_above_the_limits(rt: HostRuntime) -> Result<(), Fail> {
+    let rows: [(&str, u32, &str); 3] = [
+        ("\n", 262_143, "262144 lines, 262143 chars"),
+        ("\n", 262_144, "TooManyLines { count: 262145 }"),
+        // Of both limits that of the characters is tested first.
+        ("\n\n\n\n\n", 838_861, "TooManyChars { count: 4194305 }"),
+    ];
+    for (unit, count, answer) in rows {
+        let read = read_answer(rt.alloc(), unit, count)?;
+        assert_eq!(rt; read.as_str(), answer);
+    }
+    Ok(())
+}
+
 #[test]
 fn both_calls_have_the_worked_values(rt: HostRuntime) -> Result<(), Fail> {
     // A text and how often it is copied, a batch and how often its texts are, what both calls answer, and whether
