@@ -45,7 +45,7 @@ fn arm_of(lengths: &[Option<u32>], id: ListId) -> Arm
     }
 }
 
-/// The set of a single item that was read before, so that only memory may be wanting now.
+/// The set of a single item, which was read before: only memory may be wanting now.
 fn set_again(
     alloc: Global,
     text: &[char],
@@ -60,7 +60,7 @@ fn set_again(
     match read_single(alloc, text, at, options, depth) {
         Ok((set, _)) => Ok(set),
         Err(PatternRefusal::Memory) => Err(AllocError),
-        Err(_) => unreachable!(),
+        Err(_) => unreachable!("it was read before"),
     }
 }
 
@@ -109,7 +109,7 @@ fn lower_item(
         Item::Atomic(body) => Ok(PatNode::Atomic(*body)),
         Item::Back { target, fold, .. } => {
             let Some(number) = parsed.group_of(text, *target) else {
-                unreachable!()
+                unreachable!("the group is there")
             };
             Ok(PatNode::Back {
                 number,
