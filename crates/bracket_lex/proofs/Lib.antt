@@ -10,3 +10,6 @@ pub mod RowPlaces
 pub mod ClosedRows
 pub mod PairedRows
 pub mod NestedPairs
+pub mod TextsThatStand
+pub mod MarkedColumns
+pub mod MarksInOrder
