@@ -45,7 +45,7 @@ pub longest_no : (p : BracketText → Bool) (xs : List BracketText) (i : ℕ) (b
 longest_no p xs i b below is fails = rw (filter-push p xs i b below is, fails, append-nil (filter p (take i xs))) refl
 
 -- the longest of the texts that pass passes
-pub longer_is : (x : BracketText) (o : Option BracketText) (b : BracketText) → longer x o ≡ Some b → (x ≡ b) ⊎ (o ≡ Some b)
+longer_is : (x : BracketText) (o : Option BracketText) (b : BracketText) → longer x o ≡ Some b → (x ≡ b) ⊎ (o ≡ Some b)
 longer_is x None b e = inl (cc)
 longer_is x (Some a) b e = elim (cases_cond (ltb (length x.text) (length a.text)) (Some a) (Some x) (Some b) (sym e)) [
   | inl later ↦ inr (sym later)
@@ -72,7 +72,7 @@ starts_fits rest text e =
 pub not_empty : (n : ℕ) → 0 < n → (n == 0) ≡ false
 not_empty n h = grind (arith, nat_tests)
 
-pub stands_by : (rest text : List ℕ) → (if length text == 0 then false else starts_with nat_eq rest text) ≡ true → (0 < length text) × (length text ≤ length rest)
+stands_by : (rest text : List ℕ) → (if length text == 0 then false else starts_with nat_eq rest text) ≡ true → (0 < length text) × (length text ≤ length rest)
 stands_by rest [] e = absurd (false≢true e)
 stands_by rest (c ∷ cs) e =
     let some : 0 < length (c ∷ cs) = omega arith in

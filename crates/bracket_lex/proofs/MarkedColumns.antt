@@ -5,9 +5,9 @@ use Rattle.std.proofs.lemmas.Bool.{cases_lt, le-leb, lt-leb}
 use Rattle.pairing_defs.specs.declared.BracketText.{BracketText}
 use Rattle.pairing_defs.specs.declared.LineMark.{LineMark}
 use Rattle.pairing_defs.specs.Marks.{bracket_at, marked, further, marks_from, marks_of}
-use Rattle.bracket_lex.specs.MarkLaws.{MarksAreInTheLine, MarksAreTheLongestTexts, LongLinesHaveNoMarks}
+use Rattle.bracket_lex.specs.MarkLaws.{IsMarkOf, MarksAreInTheLine, MarksAreTheLongestTexts, LongLinesHaveNoMarks}
 use Rattle.bracket_lex.proofs.LongestText.{bracket_fits}
-use Rattle.bracket_lex.proofs.TextsThatStand.{LongestOf, some_longest, found_listed, found_stands, slice_from}
+use Rattle.bracket_lex.proofs.TextsThatStand.{LongestOf, FirstOf, stands_from, some_longest, found_first, found_stands, slice_from}
 
 -- ---- where a mark is
 -- a mark from a column on is the text that is found so many columns further
@@ -76,15 +76,16 @@ pub marks_are_the_longest_texts : MarksAreTheLongestTexts
 marks_are_the_longest_texts texts long line k mark there =
     let m : MarkAt texts 0 0 line mark = mark_of_line texts long line k mark there in
     let at : m.offset ≡ mark.from = (let from = m.from in omega arith) in
-    let found : bracket_at texts (drop mark.from line) ≡ Some m.text = ap (λ n. bracket_at texts (drop n line)) (sym at) ∙ m.found in (
-      m.text,
-      record {
-        listed = found_listed texts (drop mark.from line) m.text found;
-        text = slice_from line mark.from mark.to m.text m.to (found_stands texts (drop mark.from line) m.text found);
-        role = m.role;
-        longest = λ other listed stands.
-            let l : LongestOf _ texts other = some_longest texts line mark.from other listed stands in
-            let same : m.text ≡ l.text = (let is = l.is in cc) in
-            rw same l.at_least;
-      },
-    )
+    let found : bracket_at texts (drop mark.from line) ≡ Some m.text = ap (λ n. bracket_at texts (drop n line)) (sym at) ∙ m.found in
+    let f : FirstOf _ texts m.text = found_first texts (drop mark.from line) m.text found in
+    let is_mark : IsMarkOf texts line mark m.text = record {
+      listed = record { place = f.place; there = f.there };
+      text = slice_from line mark.from mark.to m.text m.to (found_stands texts (drop mark.from line) m.text found);
+      role = m.role;
+      longest = λ other listed stands.
+          let l : LongestOf _ texts other = some_longest texts line mark.from other listed stands in
+          let same : m.text ≡ l.text = (let is = l.is in cc) in
+          rw same l.at_least;
+      first = λ other o stands as_long. f.first o.place other o.there (stands_from line mark.from other stands) as_long;
+    } in
+    (m.text, is_mark)

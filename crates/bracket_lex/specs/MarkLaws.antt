@@ -15,12 +15,14 @@ pub record Stands (line : List ℕ) (column : ℕ) (text : List ℕ) : Type 0 wh
   pub some : 0 < length text
   pub is : slice_range line column (column + length text) ≡ text
 
--- a mark of the line is one of the texts, which stands from its first column to its last; no longer one stands there
+-- a mark of the line is one of the texts, which stands from its first column to its last. No longer one stands there,
+-- and none before it that is as long.
 pub record IsMarkOf (texts : List BracketText) (line : List ℕ) (mark : LineMark) (b : BracketText) : Type 0 where
   pub listed : IsOneOf b texts
   pub text : slice_range line mark.from mark.to ≡ b.text
   pub role : mark.role ≡ b.role
   pub longest : (other : BracketText) → IsOneOf other texts → Stands line mark.from other.text → length other.text ≤ length b.text
+  pub first : (other : BracketText) (o : IsOneOf other texts) → Stands line mark.from other.text → length other.text ≡ length b.text → listed.place ≤ o.place
 
 -- a mark has a column, and ends in the line
 abbrev pub MarksAreInTheLine : Type 0
@@ -33,7 +35,7 @@ MarksRise = (texts : List BracketText) (long : ℕ) (line : List ℕ) (k l : ℕ
     → slice_get (marks_of texts long line) k ≡ Some mark → slice_get (marks_of texts long line) l ≡ Some later → k < l
     → mark.to ≤ later.from
 
--- each mark is the longest of the texts that stand where it begins
+-- each mark is the longest of the texts that stand where it begins, and of those the first
 abbrev pub MarksAreTheLongestTexts : Type 0
 MarksAreTheLongestTexts = (texts : List BracketText) (long : ℕ) (line : List ℕ) (k : ℕ) (mark : LineMark) → slice_get (marks_of texts long line) k ≡ Some mark
     → (b : BracketText) × IsMarkOf texts line mark b
