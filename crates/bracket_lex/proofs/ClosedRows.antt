@@ -1,57 +1,15 @@
 -- Each closer of a row is the first that closes it, and has its levels.
-use Rattle.std.proofs.Common.{◌≡◌, ℕ, zero, suc, ◌+◌, ◌<◌, ◌≤◌, ◌⊎◌, nat_le, List, [], ◌∷◌, ◌++◌, length, drop, true, Some, None, refl, sym, ap, ◌∙◌, arith, inl, inr}
+use Rattle.std.proofs.Common.{◌≡◌, ℕ, zero, suc, ◌+◌, ◌<◌, ◌⊎◌, nat_le, List, [], ◌∷◌, ◌++◌, length, drop, Some, None, refl, sym, ap, ◌∙◌, arith, inl, inr}
 use Rattle.std.specs.Prelude.{slice_get}
 use Rattle.std.proofs.lemmas.Bool.{cases_Bool}
 use Rattle.text_pos.specs.declared.kinds.Kinds.{Kinds}
-use Rattle.text_pos.specs.KindSet.{has_kind}
 use Rattle.pairing_defs.specs.declared.Role.{Role}
 use Rattle.pairing_defs.specs.declared.Role.TheVariants.{Opener, Closer}
 use Rattle.pairing_defs.specs.declared.Mark.{Mark}
 use Rattle.pairing_defs.specs.Pairing.{Entry, Open, Placed, of_kind, from_last, closer_row, left_open, rows_by, open_by, placed_from, removal_of, nothing_open}
 use Rattle.bracket_lex.specs.PairLaws.{ClosesKind}
+use Rattle.bracket_lex.proofs.OpenEntries.{IsStack, IsEntry, stack_more, entry_below, Last, last_of}
 use Rattle.bracket_lex.proofs.RowPlaces.{closes_here, closes_none, closes_above}
-
--- ---- open entries
--- their rows fall, and are below n
-abbrev pub IsStack : ℕ → List Entry → Type 0
-IsStack n [] = Unit {0}
-IsStack n (e ∷ below) = (e.row < n) × IsStack e.row below
-
--- the entry is among these, with these below it
-abbrev pub IsEntry : Entry → List Entry → List Entry → Type 0
-IsEntry entry below [] = ⊥
-IsEntry entry below (e ∷ es) = ((e ≡ entry) × (es ≡ below)) ⊎ IsEntry entry below es
-
-stack_more : (n m : ℕ) (es : List Entry) → IsStack n es → n ≤ m → IsStack m es
-stack_more n m [] stack more = tt
-stack_more n m (e ∷ es) stack more = (omega arith, stack.1)
-
-entry_below : (n : ℕ) (es : List Entry) (entry : Entry) (below : List Entry) → IsStack n es → IsEntry entry below es → entry.row < n
-entry_below n [] entry below stack is = absurd is
-entry_below n (e ∷ es) entry below stack is = elim is [
-  | inl same ↦ let row : e.row ≡ entry.row = ap (λ x. x.row) same.0 in omega arith
-  | inr deeper ↦ let under = entry_below e.row es entry below stack.1 deeper in omega arith
-]
-
--- the last entry of some kinds
-record Last (kinds : Kinds) (n : ℕ) (es : List Entry) (entry : Entry) (below : List Entry) : Type 0 where
-  is_entry : IsEntry entry below es
-  kind : has_kind kinds entry.kind ≡ true
-  stack : IsStack entry.row below
-  deeper : (e : Entry) (under : List Entry) → IsEntry e under below → IsEntry e under es
-
-last_of : (kinds : Kinds) (n : ℕ) (es : List Entry) (entry : Entry) (below : List Entry) → IsStack n es → from_last kinds es ≡ entry ∷ below → Last kinds n es entry below
-last_of kinds n [] entry below stack is = absurd (cc)
-last_of kinds n (e ∷ es) entry below stack is = elim (cases_Bool (has_kind kinds e.kind)) [
-  | inl here ↦
-      let found : e ∷ es ≡ entry ∷ below = rw here at is in
-      let first : e ≡ entry = cc in
-      let rest : es ≡ below = cc in
-      record { is_entry = inl (first, rest); kind = rw (← first) here; stack = rw (← first, ← rest) stack.1; deeper = λ x under h. inr (rw rest h) }
-  | inr other ↦
-      let l : Last kinds e.row es entry below = last_of kinds e.row es entry below stack.1 (rw other at is) in
-      record { is_entry = inr l.is_entry; kind = l.kind; stack = l.stack; deeper = λ x under h. inr (l.deeper x under h) }
-]
 
 -- ---- closers of rows
 -- row `at` is the first that closes the row of an open entry, and has the entry's levels

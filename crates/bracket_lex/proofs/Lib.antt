@@ -7,6 +7,12 @@ pub mod RowSteps
 pub mod Stack
 pub mod TextSteps
 pub mod RowPlaces
+pub mod OpenEntries
 pub mod ClosedRows
 pub mod PairedRows
 pub mod NestedPairs
+pub mod LastOpeners
+pub mod TextsThatStand
+pub mod MarkedColumns
+pub mod MarksInOrder
+pub mod TakenOpeners

@@ -52,7 +52,7 @@ longer_is x (Some a) b e = elim (cases_cond (ltb (length x.text) (length a.text)
   | inr here ↦ inl (cc)
 ]
 
-longest_passes : (p : BracketText → Bool) (xs : List BracketText) (b : BracketText) → longest (filter p xs) ≡ Some b → p b ≡ true
+pub longest_passes : (p : BracketText → Bool) (xs : List BracketText) (b : BracketText) → longest (filter p xs) ≡ Some b → p b ≡ true
 longest_passes p [] b e = cc
 longest_passes p (x ∷ xs) b e = elim (cases_Bool (p x)) [
   | inl passes ↦ elim (longer_is x (longest (filter p xs)) b (rw passes at e)) [
@@ -69,7 +69,7 @@ starts_fits rest text e =
     let total = length-append text (drop (length text) rest) in
     omega (arith, ap length split, total)
 
-not_empty : (n : ℕ) → 0 < n → (n == 0) ≡ false
+pub not_empty : (n : ℕ) → 0 < n → (n == 0) ≡ false
 not_empty n h = grind (arith, nat_tests)
 
 stands_by : (rest text : List ℕ) → (if length text == 0 then false else starts_with nat_eq rest text) ≡ true → (0 < length text) × (length text ≤ length rest)

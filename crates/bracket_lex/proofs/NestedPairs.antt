@@ -82,7 +82,7 @@ openers_below : (limit : ℕ) (ms : List Mark) (state : Open) → OpenersBelow l
 openers_below limit [] state = λ k kind p there role. absurd (cc)
 openers_below limit (m ∷ ms) state = below_by limit state m ms m.role refl (λ s. openers_below limit ms s)
 
-row_mark : (end : Pos) (n : ℕ) (p : Placed) (role : Role) (removal : Option Removal) → (row_of end n p role removal).mark ≡ p.mark
+pub row_mark : (end : Pos) (n : ℕ) (p : Placed) (role : Role) (removal : Option Removal) → (row_of end n p role removal).mark ≡ p.mark
 row_mark end n p (Opener kind) removal = refl
 row_mark end n p (Closer kinds) removal = refl
 

@@ -27,7 +27,7 @@ pub record Pair (ps : List Placed) (i j : ℕ) : Type 0 where
   pub before : i < j
   pub first : removal_of i (i + 1) (drop (suc i) ps) ≡ Some (record { row = j; start = closer.mark.at; closes = i })
 
-closed_pair : (limit : ℕ) (ms : List Mark) (i j : ℕ) (q : Placed) → slice_get (placed_from limit nothing_open ms) j ≡ Some q → q.closes ≡ Some i
+pub closed_pair : (limit : ℕ) (ms : List Mark) (i j : ℕ) (q : Placed) → slice_get (placed_from limit nothing_open ms) j ≡ Some q → q.closes ≡ Some i
     → Pair (placed_from limit nothing_open ms) i j
 closed_pair limit ms i j q there closes =
     let y : ByRow 0 (placed_from limit nothing_open ms) j i q = closer_of_row limit ms j i q there closes in

@@ -1,4 +1,5 @@
 pub mod Longest
+pub mod MarkLaws
 pub mod MarkedLine
 pub mod PairLaws
 pub mod Pairing

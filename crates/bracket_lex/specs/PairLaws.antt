@@ -1,6 +1,6 @@
 -- Laws of the rows of a text, whatever its marks, its end and the limit on nesting: how partners belong together.
 -- That they hold is this project's own.
-use Rattle.std.specs.Prelude.{◌≡◌, ℕ, ◌<◌, ◌⊎◌, List, Some, None, true, slice_get}
+use Rattle.std.specs.Prelude.{◌≡◌, ℕ, ◌<◌, ◌≤◌, ◌⊎◌, List, Some, None, true, slice_get}
 use Rattle.text_pos.specs.declared.length.Pos.{Pos}
 use Rattle.text_pos.specs.KindSet.{has_kind}
 use Rattle.pairing_defs.specs.declared.Role.{Role}
@@ -62,3 +62,20 @@ OpenersAreBelowTheLimit = (limit : ℕ) (end : Pos) (marks : List Mark) (i kind 
 -- and so is a closer with a partner
 abbrev pub PartnersAreBelowTheLimit : Type 0
 PartnersAreBelowTheLimit = (limit : ℕ) (end : Pos) (marks : List Mark) (i j : ℕ) (row : Row) → HasPartner (paired limit end marks) i row j → row.level < limit
+
+-- a row is closed off before row i: between the two stands a closer of the row, or of one before it
+pub record IsClosedOff (rows : List Row) (k i : ℕ) : Type 0 where
+  pub place : ℕ
+  pub row : Row
+  pub partner : ℕ
+  pub closer : HasPartner rows place row partner
+  pub around : partner ≤ k
+  pub behind : k < place
+  pub before : place < i
+
+-- a closer takes the last opener of its kinds that isn't closed off: one that it could take is closed off, or its
+-- partner, or before its partner
+abbrev pub ClosersTakeTheLastOpener : Type 0
+ClosersTakeTheLastOpener = (limit : ℕ) (end : Pos) (marks : List Mark) (k i : ℕ) (opener closer : Row)
+    → slice_get (paired limit end marks) k ≡ Some opener → slice_get (paired limit end marks) i ≡ Some closer → k < i → OpensFor opener.mark.role closer.mark.role
+    → IsClosedOff (paired limit end marks) k i ⊎ ((j : ℕ) × (closer.partner ≡ Some j) × (k ≤ j))

@@ -3,6 +3,7 @@
 
 pub mod brackets;
 pub mod line_marks;
+pub mod mark_laws;
 pub mod mark_lines;
 mod open_marks;
 pub mod paired;
@@ -12,10 +13,11 @@ mod text_marks;
 
 pub use brackets::Brackets;
 pub use line_marks::LineMarks;
+pub use mark_laws::{marks_are_texts, marks_rise};
 pub use mark_lines::MarkLines;
 pub use paired::Paired;
 pub use pairing_defs::{BracketText, LineMark, Mark, Role, Row};
-pub use pairing_laws::{pairs_are_nested, partners_belong_together};
+pub use pairing_laws::{closers_take_the_last_opener, pairs_are_nested, partners_belong_together};
 
 #[cfg(test)]
 mod tests;

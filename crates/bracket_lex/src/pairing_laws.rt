@@ -1,4 +1,4 @@
-ghost use Rattle.bracket_lex.specs.PairLaws.{PartnersAreMutual, OpenersComeFirst, PartnersAreAlike, TheUnpairedHaveColourSix, PairsNeverCross, OpenersAreBelowTheLimit, PartnersAreBelowTheLimit};
+ghost use Rattle.bracket_lex.specs.PairLaws.{PartnersAreMutual, OpenersComeFirst, PartnersAreAlike, TheUnpairedHaveColourSix, PairsNeverCross, OpenersAreBelowTheLimit, PartnersAreBelowTheLimit, ClosersTakeTheLastOpener};
 
 /// However a text's marks are, the rows that `Paired` gives belong together in pairs of an opener and a closer.
 pub fn partners_belong_together()
@@ -13,4 +13,9 @@ pub fn pairs_are_nested()
     ensures inside { PairsNeverCross }
     ensures openers { OpenersAreBelowTheLimit }
     ensures partners { PartnersAreBelowTheLimit }
+{}
+
+/// No closer passes by an opener that it could close.
+pub fn closers_take_the_last_opener()
+    ensures { ClosersTakeTheLastOpener }
 {}
