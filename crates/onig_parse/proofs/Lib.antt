@@ -8,3 +8,13 @@ pub mod FormedParts
 pub mod FormedGroups
 pub mod FormedSteps
 pub mod FormedTexts
+pub mod PlaceLemmas
+pub mod EscapePlaces
+pub mod MemberPlaces
+pub mod ClassPlaces
+pub mod PartPlaces
+pub mod GroupPlaces
+pub mod SightPlaces
+pub mod StepPlaces
+pub mod TextPlaces
+pub mod StepCounts
