@@ -18,3 +18,4 @@ pub mod SightPlaces
 pub mod StepPlaces
 pub mod TextPlaces
 pub mod StepCounts
+pub mod PlainTexts

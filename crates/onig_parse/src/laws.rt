@@ -1,6 +1,6 @@
 //! Laws of reading a pattern text, as its definition tells it.
 
-ghost use Rattle.onig_parse.specs.Laws.{FaultsLieInTheText, MembersSuffice, StepsSuffice};
+ghost use Rattle.onig_parse.specs.Laws.{FaultsLieInTheText, MembersSuffice, PlainTextsAreRead, StepsSuffice};
 
 /// The place of a fault lies in the text that is refused, or at its end.
 pub fn faults_lie_in_the_text()
@@ -16,4 +16,9 @@ pub fn steps_suffice()
 /// The same of the members of a class.
 pub fn members_suffice()
     ensures { MembersSuffice }
+{}
+
+/// A text without signs is one list, which has an item for each character in its order.
+pub fn plain_texts_are_read()
+    ensures { PlainTextsAreRead }
 {}
