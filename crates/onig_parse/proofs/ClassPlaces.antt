@@ -1,5 +1,5 @@
--- A class ends further on than it begins, its fault lies in the text, and its members don't run out of steps.
-use Rattle.std.proofs.Common.{◌≡◌, ℕ, zero, suc, ◌+◌, ◌<◌, ◌≤◌, ◌==◌, List, [], ◌∷◌, length, drop, Bool, true, false, ◌&&◌, not, is_none, Result, Ok, Err, refl, subst, arith}
+-- A class ends further on than it begins, its fault fits the text, and its members don't run out of steps.
+use Rattle.std.proofs.Common.{◌≡◌, ℕ, zero, suc, ◌+◌, ◌<◌, ◌≤◌, ◌==◌, List, [], ◌∷◌, length, drop, Bool, true, false, ◌&&◌, not, is_none, Result, Ok, Err, refl, subst, arith, inl}
 use Rattle.std.proofs.lemmas.Bool.{cond_both, and_parts, false≢true}
 use Rattle.std.proofs.lemmas.List.{length-drop}
 use Rattle.syntax_defs.specs.declared.class_part.ClassPart.{ClassPart}
@@ -7,7 +7,7 @@ use Rattle.syntax_defs.specs.declared.class_part.ClassPart.TheVariants.{End, Clo
 use Rattle.syntax_defs.specs.Reading.{Fault, Read}
 use Rattle.syntax_defs.specs.Sights.{begins_with}
 use Rattle.syntax_defs.specs.Classes.{SetReader, Sides, no_members, with_member, next_side, bracket_at, member_at, part_at, by_part, members_at, class_body_at, class_within}
-use Rattle.onig_parse.specs.Laws.{MembersSuffice}
+use Rattle.onig_parse.specs.ReadingLaws.{MembersSuffice}
 use Rattle.onig_parse.proofs.PlaceLemmas.{Within-bind, bind_same, Onward, ReadsOn}
 use Rattle.onig_parse.proofs.MemberPlaces.{member_at-on}
 
@@ -39,7 +39,7 @@ part_at-inside first (c ∷ rest) =
 -- what is read on from behind a place is read on from before it
 from_further : {X : Type 0} (begin next end : ℕ) (read : Result (Read X) Fault) → begin ≤ next → ReadsOn next end read → ReadsOn begin end read
 from_further begin next end (Ok read) h onward = record { on = let more = onward.on in omega arith; left = onward.left }
-from_further begin next end (Err fault) h lies = lies
+from_further begin next end (Err fault) h fits = fits
 
 -- what stands behind a member
 abbrev pub ReadsMembers : (Sides → SetReader) → Type 0
@@ -82,7 +82,7 @@ class_body_at-on nested fold false begin rest takes h two =
 
 pub class_within-on : (levels : ℕ) (fold : Bool) → TakesCharacters (class_within levels fold)
 unfolding class_within
-class_within-on zero fold begin rest h = tt
+class_within-on zero fold begin rest h = inl refl
 class_within-on (suc levels) fold begin rest h =
     class_body_at-on (class_within levels fold) fold (begins_with 94 (drop 1 rest)) begin rest (class_within-on levels fold) h
     (λ e. let one = begins_with-one 94 (drop 1 rest) e in omega (arith, length-drop 1 rest))

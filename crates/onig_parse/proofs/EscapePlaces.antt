@@ -1,4 +1,4 @@
--- An escape ends further on than it begins, and its fault lies in the text.
+-- An escape ends further on than it begins, and its fault fits the text.
 use Rattle.std.proofs.Common.{◌≡◌, ℕ, ◌+◌, ◌<◌, ◌≤◌, ◌==◌, List, [], ◌∷◌, length, take, drop, Bool, nat_lt, Option, Some, None, refl, arith}
 use Rattle.std.specs.Char.{is_ascii_alphanumeric, is_digit}
 use Rattle.std.proofs.lemmas.Bool.{cond_both}

@@ -1,4 +1,4 @@
--- A form in parentheses ends further on than it begins, and its fault lies in the text.
+-- A form in parentheses ends further on than it begins, and its fault fits the text.
 use Rattle.std.proofs.Common.{ℕ, ◌+◌, ◌<◌, ◌≤◌, ◌==◌, List, [], ◌∷◌, length, drop, Bool, true, ◌&&◌, not, Some, None, subst, sym, arith}
 use Rattle.std.specs.List.{list_any}
 use Rattle.std.proofs.lemmas.Bool.{cond_both}
@@ -119,7 +119,7 @@ made-placed t begin from (Behind wanted) number b s h behind body =
 made-placed t begin from Atomic number b s h behind body =
     let list = body_list-placed t from b s behind body in record { seen = list.seen; placed = (tt, tt); on = list.on }
 
--- what a reader of bodies reads ends in the text, and its fault lies there
+-- what a reader of bodies reads ends in the text, and its fault fits it
 abbrev pub KeepsPlaces : Extent → BodyReader → Type 0
 KeepsPlaces t go = (options : Options) (s : Seen) → PlacedSeen t s → Within t.end (λ r. PlacedPart t s.place r.0 r.1) (go options s)
 

@@ -1,4 +1,4 @@
--- A member of a class ends further on than it begins, and its fault lies in the text.
+-- A member of a class ends further on than it begins, and its fault fits the text.
 use Rattle.std.proofs.Common.{◌≡◌, ℕ, ◌+◌, ◌<◌, ◌≤◌, ◌==◌, List, [], ◌∷◌, length, drop, Bool, true, false, ◌&&◌, ◌||◌, nat_lt, nat_eq, slice_range, Option, Some, None, Ok, Err, IfSome, refl, sym, ◌∙◌, arith}
 use Rattle.std.specs.List.{starts_with}
 use Rattle.std.proofs.lemmas.Bool.{cond_both, and_parts, and_right, false≢true}
@@ -94,7 +94,7 @@ char_of_value-on begin end item (Set p) onward = tt
 
 char_of-on : (begin end : ℕ) (escape : Escape) → ReadsOn begin end escape → CharOn begin end (char_of escape)
 char_of-on begin end (Ok item) onward = char_of_value-on begin end item item.value onward
-char_of-on begin end (Err fault) lies = tt
+char_of-on begin end (Err fault) fits = tt
 
 range_char_at-on : (begin end : ℕ) (rest : List ℕ) → begin + length rest ≡ end → CharOn begin end (range_char_at begin rest)
 unfolding range_char_at

@@ -1,8 +1,10 @@
 -- A text without signs is read as one list, with an item for each character.
-use Rattle.std.proofs.Common.{◌≡◌, ℕ, ◌+◌, ◌-◌, ◌<◌, ◌==◌, List, [], ◌∷◌, ◌++◌, length, drop, min, false, Option, None, Ok, subst, sym, ap, refl, ◌∙◌, arith}
+use Rattle.std.proofs.Common.{◌≡◌, ℕ, suc, ◌+◌, ◌-◌, ◌<◌, ◌≤◌, ◌==◌, List, [], ◌∷◌, ◌++◌, length, drop, get_or, min, false, Option, None, Ok, subst, sym, ap, refl, ◌∙◌, arith}
 use Rattle.std.specs.List.{list_any}
-use Rattle.std.proofs.lemmas.Bool.{or_parts, le-ltb}
+use Rattle.std.proofs.lemmas.Bool.{or_parts, le-ltb, false_from_ne_true, false≢true}
 use Rattle.std.proofs.lemmas.List.{length-drop, drop-drop, append-nil, append_assoc}
+use Rattle.std.proofs.lemmas.List.Folds.{list_any_at}
+use Rattle.std.proofs.Math.Seq.{drop-cons}
 use Rattle.syntax_defs.specs.declared.items.Item.{Item}
 use Rattle.syntax_defs.specs.declared.items.Item.TheVariants.{One}
 use Rattle.syntax_defs.specs.declared.items.Sight.TheVariants.{Single}
@@ -11,10 +13,10 @@ use Rattle.syntax_defs.specs.Sights.{sight_at}
 use Rattle.syntax_defs.specs.Classes.{is_char_folded}
 use Rattle.syntax_defs.specs.Singles.{single_at}
 use Rattle.syntax_defs.specs.PatternSyntax.{Seen, Body, BodyReader, Parsed, rest_of, at_place, adds, go_on, with_item, open_items, with_list, next_id, step_by, step, steps, body_at, empty_body, parsed_of, whole_by, no_options, items_of, listed, start, parse}
-use Rattle.syntax_defs.specs.Lengths.{lengths_of, late_in, kept_unless, tested, read_within}
+use Rattle.syntax_defs.specs.Lengths.{lengths_of, late_in, kept_unless, tested, read_within, read_pattern}
 use Rattle.syntax_defs.specs.Reading.{◌>>=◌}
 use Rattle.onig_parse.proofs.BodySteps.{body_at-steps, steps-more, steps-end}
-use Rattle.onig_parse.specs.Laws.{is_sign, ones_from, plain_text, PlainTextsAreRead}
+use Rattle.onig_parse.specs.ReadingLaws.{is_sign, ones_from, plain_text, TakesEach, PlainTextsAreRead}
 
 -- one character
 
@@ -132,8 +134,18 @@ plain_late : (text : List ℕ) (parsed : Parsed) (lengths : List (Option ℕ)) (
 plain_late text parsed lengths at [] = refl
 plain_late text parsed lengths at (c ∷ cs) = plain_late text parsed lengths (at + 1) cs
 
-pub plain_texts_are_read : PlainTextsAreRead
-plain_texts_are_read text plain short =
+plain_read : (text : List ℕ) → list_any is_sign text ≡ false → length text ≤ most_pattern_chars → read_pattern text ≡ Ok (plain_text text)
+plain_read text plain short =
     ap (λ long. read_within long text) (le-ltb most_pattern_chars (length text) short)
     ∙ ap (λ read. read >>= tested text) (plain_parse text plain)
     ∙ ap (λ place. kept_unless place (plain_text text)) (plain_late text (plain_text text) (lengths_of (plain_text text).lists) 0 text)
+
+plain_takes : (text : List ℕ) → list_any is_sign text ≡ false → TakesEach text
+plain_takes text plain at inside =
+    let behind : suc at ≡ at + 1 = omega arith in
+    let rest : drop at text ≡ get_or text at 0 ∷ drop (at + 1) text = drop-cons text at 0 inside ∙ ap (λ n. get_or text at 0 ∷ drop n text) behind in
+    let is = no_sign (get_or text at 0) (false_from_ne_true _ (λ sign. absurd (false≢true (sym plain ∙ list_any_at is_sign text at 0 inside sign)))) in
+    ap (single_at no_options 0 at) rest ∙ plain_single (get_or text at 0) at (drop (at + 1) text) is
+
+pub plain_texts_are_read : PlainTextsAreRead
+plain_texts_are_read text plain short = (plain_read text plain short, plain_takes text plain)

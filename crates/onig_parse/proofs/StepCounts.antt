@@ -7,7 +7,7 @@ use Rattle.syntax_defs.specs.declared.items.Item.TheVariants.{One, At, Choice, G
 use Rattle.syntax_defs.specs.Reading.{Fault}
 use Rattle.syntax_defs.specs.Sights.{sight_at}
 use Rattle.syntax_defs.specs.PatternSyntax.{Seen, Body, Stepped, BodyReader, rest_of, step_by, step, after_step, steps, body_at}
-use Rattle.onig_parse.specs.Laws.{StepsSuffice}
+use Rattle.onig_parse.specs.ReadingLaws.{StepsSuffice}
 use Rattle.onig_parse.proofs.PlaceLemmas.{Within, bind_same}
 use Rattle.onig_parse.proofs.PartPlaces.{Extent, IsPlaced, ArePlaced, ListsPlaced, PlacedSeen, PlacedStep, GoesOn}
 use Rattle.onig_parse.proofs.GroupPlaces.{KeepsPlaces}
@@ -50,7 +50,7 @@ fewer end count begin false s seen on h = tt
 
 fewer-map : (end count begin : ℕ) (read : Result Stepped Fault) → end < begin + suc count → Within end (PlacedStep (any_places end) begin) read → Within end (λ r. FewerLeft end count r.more r.seen) read
 fewer-map end count begin (Ok r) h placed = fewer end count begin r.more r.seen placed.seen placed.on h
-fewer-map end count begin (Err fault) h lies = lies
+fewer-map end count begin (Err fault) h fits = fits
 
 step-fewer : (end : ℕ) (go : BodyReader) (count levels : ℕ) (options : Options) (b : Body) (s : Seen) → KeepsPlaces (any_places end) go → length s.text ≡ end → length (rest_of s) < suc count → Within end (λ r. FewerLeft end count r.more r.seen) (step go levels options b s)
 step-fewer end go count levels options b s keeps whole h =

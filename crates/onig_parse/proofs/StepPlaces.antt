@@ -1,5 +1,5 @@
--- Each step of the body of a form takes a character, or ends the body, and its fault lies in the text.
-use Rattle.std.proofs.Common.{ℕ, ◌+◌, ◌-◌, ◌<◌, ◌==◌, List, [], ◌∷◌, length, drop, Bool, true, false, ◌||◌, nat_lt, nat_le, Option, Some, None, Result, IfSome, subst, sym, arith}
+-- Each step of the body of a form takes a character, or ends the body, and its fault fits the text.
+use Rattle.std.proofs.Common.{ℕ, ◌+◌, ◌-◌, ◌<◌, ◌==◌, List, [], ◌∷◌, length, drop, Bool, true, false, ◌||◌, nat_lt, nat_le, Option, Some, None, Result, IfSome, subst, sym, refl, arith, inr}
 use Rattle.std.proofs.lemmas.Bool.{cond_both}
 use Rattle.std.proofs.lemmas.List.{length-drop}
 use Rattle.pattern_defs.specs.declared.nodes.ListId.{ListId}
@@ -65,7 +65,7 @@ repeat_at-placed : (t : Extent) (bounds : Bounds) (repeats : Option ℕ) (b : Bo
 repeat_at-placed t bounds None b s seen body h takes = omega arith
 repeat_at-placed t bounds (Some count) b s seen body h takes =
     cond_both (nat_lt most_count bounds.least || is_above most_count bounds.most) _ _ (Within t.end (PlacedStep t s.place)) (λ _. omega arith) λ _.
-    cond_both (nat_le most_repeats count) _ _ (Within t.end (PlacedStep t s.place)) (λ _. tt) λ _.
+    cond_both (nat_le most_repeats count) _ _ (Within t.end (PlacedStep t s.place)) (λ _. inr refl) λ _.
     cond_both (is_below bounds.most bounds.least) _ _ (Within t.end (PlacedStep t s.place)) (λ _. omega arith) λ _.
     signed-placed t (is_lazy bounds.form (drop bounds.length (rest_of s))) (is_possessive bounds.form (drop bounds.length (rest_of s))) bounds count b s seen body h takes
 

@@ -1,7 +1,7 @@
--- A text is read up to its end, and a fault lies in it.
-use Rattle.std.proofs.Common.{◌≡◌, ℕ, zero, suc, ◌+◌, ◌≤◌, List, [], ◌∷◌, length, Bool, true, false, nat_lt, is_none, Option, Some, None, IfSome, subst, sym, ap, refl, arith}
+-- A text is read up to its end, and a fault fits it.
+use Rattle.std.proofs.Common.{◌≡◌, ℕ, zero, suc, ◌+◌, ◌≤◌, List, [], ◌∷◌, length, Bool, true, false, nat_lt, is_none, Option, Some, None, IfSome, subst, sym, ap, refl, arith, inl}
 use Rattle.std.specs.List.{list_any}
-use Rattle.std.proofs.lemmas.Bool.{cond_both}
+use Rattle.std.proofs.lemmas.Bool.{cond_both, ltb-true}
 use Rattle.std.proofs.lemmas.List.{length-drop}
 use Rattle.syntax_defs.specs.declared.items.Options.{Options}
 use Rattle.syntax_defs.specs.declared.items.Item.{Item}
@@ -10,7 +10,7 @@ use Rattle.syntax_defs.specs.Limits.{most_pattern_chars}
 use Rattle.syntax_defs.specs.Sights.{sight_at}
 use Rattle.syntax_defs.specs.PatternSyntax.{Seen, Body, BodyReader, Parsed, rest_of, empty_body, step_by, step, after_step, steps, body_at, whole_by, no_options, start, parse}
 use Rattle.syntax_defs.specs.Lengths.{length_of, lengths_of, group_of, late_place, earlier, late_in, late_among, late_fault, kept_unless, tested, read_within}
-use Rattle.onig_parse.specs.Laws.{FaultsLieInTheText}
+use Rattle.onig_parse.specs.ReadingLaws.{EachFaultFitsItsText}
 use Rattle.onig_parse.proofs.PlaceLemmas.{Within, Within-bind}
 use Rattle.onig_parse.proofs.PartPlaces.{Extent, IsPlaced, ArePlaced, ListsPlaced, PlacedSeen, PlacedBody, PlacedPart, PlacedStep, GoesOn}
 use Rattle.onig_parse.proofs.GroupPlaces.{KeepsPlaces, body_list-placed}
@@ -53,7 +53,7 @@ steps-placed t go (suc count) levels options begin b s keeps part =
 
 pub body_at-placed : (t : Extent) (levels : ℕ) → KeepsPlaces t (body_at levels)
 unfolding body_at
-body_at-placed t zero options s seen = tt
+body_at-placed t zero options s seen = inl refl
 body_at-placed t (suc levels) options s seen =
     steps-placed t (body_at levels) (length s.text + 1) levels options s.place empty_body s (body_at-placed t levels)
     (record { seen = seen; body = record { done = tt; last = tt }; on = omega arith })
@@ -116,12 +116,12 @@ tested-within : (end : ℕ) (text : List ℕ) (parsed : Parsed) → ListsPlaced 
 tested-within end text parsed placed =
     kept_unless-within end (late_fault text parsed) parsed (late_among-within end text parsed (lengths_of parsed.lists) None parsed.lists tt placed)
 
-read_within-lies : (long : Bool) (text : List ℕ) → Within (length text) (λ _. Unit {0}) (read_within long text)
-read_within-lies true text = tt
-read_within-lies false text =
+read_within-fits : (long : Bool) (text : List ℕ) → nat_lt most_pattern_chars (length text) ≡ long → Within (length text) (λ _. Unit {0}) (read_within long text)
+read_within-fits true text e = (refl, ltb-true most_pattern_chars (length text) e)
+read_within-fits false text e =
     Within-bind (length text) (λ parsed. ListsPlaced (places_in (length text)) parsed.lists) (λ _. Unit {0}) (parse text) (tested text) (parse-placed text) λ parsed placed.
     tested-within (length text) text parsed placed
 
-pub faults_lie_in_the_text : FaultsLieInTheText
-faults_lie_in_the_text text fault e =
-    subst (λ read. Within (length text) (λ _. Unit {0}) read) e (read_within-lies (nat_lt most_pattern_chars (length text)) text)
+pub each_fault_fits_its_text : EachFaultFitsItsText
+each_fault_fits_its_text text fault e =
+    subst (λ read. Within (length text) (λ _. Unit {0}) read) e (read_within-fits (nat_lt most_pattern_chars (length text)) text refl)

@@ -1,6 +1,6 @@
 pub mod Drafts
 pub mod Formed
 pub mod Kept
-pub mod Laws
 pub mod Reader
 pub mod Reading
+pub mod ReadingLaws

@@ -1,10 +1,11 @@
 //! Laws of reading a pattern text, as its definition tells it.
 
-ghost use Rattle.onig_parse.specs.Laws.{FaultsLieInTheText, MembersSuffice, PlainTextsAreRead, StepsSuffice};
+ghost use Rattle.onig_parse.specs.ReadingLaws.{EachFaultFitsItsText, MembersSuffice, PlainTextsAreRead, StepsSuffice};
 
-/// The place of a fault lies in the text that is refused, or at its end.
-pub fn faults_lie_in_the_text()
-    ensures { FaultsLieInTheText }
+/// Why a text is refused fits the text: a place is one of its characters or its end, a depth is one above the limit
+/// of levels or of repeats, and a count is that of its characters, which is above the limit.
+pub fn each_fault_fits_its_text()
+    ensures { EachFaultFitsItsText }
 {}
 
 /// No reading of a body stops for want of steps: where there are more than characters that are left, with any more
@@ -18,7 +19,7 @@ pub fn members_suffice()
     ensures { MembersSuffice }
 {}
 
-/// A text without signs is one list, which has an item for each character in its order.
+/// A text without signs is one list, which has an item for each character in its order, and that takes just it.
 pub fn plain_texts_are_read()
     ensures { PlainTextsAreRead }
 {}

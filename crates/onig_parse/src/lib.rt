@@ -22,7 +22,7 @@ mod steps;
 
 pub use char_sets::{CharRange, CharSet};
 pub use draft::PatternDraft;
-pub use laws::{faults_lie_in_the_text, members_suffice, plain_texts_are_read, steps_suffice};
+pub use laws::{each_fault_fits_its_text, members_suffice, plain_texts_are_read, steps_suffice};
 pub use pattern::Pattern;
 pub use pattern_defs::{Anchor, Arm, Arms, ListId, ListIds, PatNode};
 pub use syntax_defs::PatternRefusal;

@@ -1,26 +1,27 @@
--- Laws of reading a pattern text: where a fault lies, that no reading stops for want of steps, and what a text
--- without signs is.
-use Rattle.std.specs.Prelude.{◌≡◌, ℕ, ◌+◌, ◌<◌, ◌≤◌, ◌==◌, List, [], ◌∷◌, codes, length, Bool, false, Ok, Err}
+-- Laws of reading a pattern text: what a fault tells of its text, that no reading stops for want of steps, and what a
+-- text without signs is.
+use Rattle.std.specs.Prelude.{◌≡◌, ◌⊎◌, ℕ, ◌+◌, ◌<◌, ◌≤◌, ◌==◌, List, [], ◌∷◌, codes, length, drop, get_or, Bool, false, Ok, Err}
 use Rattle.std.specs.List.{list_any}
 use Rattle.syntax_defs.specs.declared.items.Options.{Options}
 use Rattle.syntax_defs.specs.declared.items.Item.{Item}
 use Rattle.syntax_defs.specs.declared.items.Item.TheVariants.{One}
-use Rattle.syntax_defs.specs.Limits.{most_pattern_chars}
+use Rattle.syntax_defs.specs.Limits.{most_pattern_chars, most_levels, most_repeats}
 use Rattle.syntax_defs.specs.Reading.{Fault, Syntax, LeftOut, TooDeep, TooLong}
-use Rattle.syntax_defs.specs.Classes.{Sides, class_within, members_at}
+use Rattle.syntax_defs.specs.Classes.{Sides, is_char_folded, class_within, members_at}
+use Rattle.syntax_defs.specs.Singles.{single_at}
 use Rattle.syntax_defs.specs.PatternSyntax.{Seen, Body, Parsed, rest_of, steps, body_at, no_options}
 use Rattle.syntax_defs.specs.Lengths.{read_pattern}
 
--- the place of a fault is one of a text of so many characters, or its end
-abbrev pub LiesIn : (end : ℕ) → Fault → Type 0
-LiesIn end (Syntax at) = at ≤ end
-LiesIn end (LeftOut at) = at ≤ end
-LiesIn end (TooDeep depth) = Unit {0}
-LiesIn end (TooLong count) = Unit {0}
+-- What a fault tells of a text of so many characters: its place is one of the text or the end, its depth one above a
+-- limit, and its count that of the text, which is above the limit.
+abbrev pub FitsText : (end : ℕ) → Fault → Type 0
+FitsText end (Syntax at) = at ≤ end
+FitsText end (LeftOut at) = at ≤ end
+FitsText end (TooDeep depth) = (depth ≡ most_levels + 1) ⊎ (depth ≡ most_repeats + 1)
+FitsText end (TooLong count) = (count ≡ end) × (most_pattern_chars < count)
 
--- the place of a fault lies in its text
-abbrev pub FaultsLieInTheText : Type 0
-FaultsLieInTheText = (text : List ℕ) (fault : Fault) → read_pattern text ≡ Err fault → LiesIn (length text) fault
+abbrev pub EachFaultFitsItsText : Type 0
+EachFaultFitsItsText = (text : List ℕ) (fault : Fault) → read_pattern text ≡ Err fault → FitsText (length text) fault
 
 -- more steps than characters that are left are enough: with any more the same is read
 abbrev pub StepsSuffice : Type 0
@@ -47,5 +48,13 @@ ones_from at (c ∷ cs) = One at no_options 0 ∷ ones_from (at + 1) cs
 abbrev pub plain_text : List ℕ → Parsed
 plain_text text = record { lists = ones_from 0 text ∷ []; top = record { 0 = 0 }; groups = 0; names = [] }
 
+-- the item of each character takes just that
+abbrev pub TakesEach : List ℕ → Type 0
+TakesEach text =
+    (at : ℕ) → at < length text →
+    single_at no_options 0 at (drop at text) ≡ Ok (record { value = is_char_folded false (get_or text at 0); place = at + 1; rest = drop (at + 1) text })
+
 abbrev pub PlainTextsAreRead : Type 0
-PlainTextsAreRead = (text : List ℕ) → list_any is_sign text ≡ false → length text ≤ most_pattern_chars → read_pattern text ≡ Ok (plain_text text)
+PlainTextsAreRead =
+    (text : List ℕ) → list_any is_sign text ≡ false → length text ≤ most_pattern_chars →
+    (read_pattern text ≡ Ok (plain_text text)) × TakesEach text
