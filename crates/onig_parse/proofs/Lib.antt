@@ -10,3 +10,14 @@ pub mod FormedGroups
 pub mod FormedSteps
 pub mod FormedTexts
 pub mod LateLemmas
+pub mod PlaceLemmas
+pub mod EscapePlaces
+pub mod MemberPlaces
+pub mod ClassPlaces
+pub mod PartPlaces
+pub mod GroupPlaces
+pub mod SightPlaces
+pub mod StepPlaces
+pub mod TextPlaces
+pub mod StepCounts
+pub mod PlainTexts

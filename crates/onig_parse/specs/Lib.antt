@@ -3,3 +3,4 @@ pub mod Formed
 pub mod Kept
 pub mod Reader
 pub mod Reading
+pub mod ReadingLaws

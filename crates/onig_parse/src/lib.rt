@@ -8,6 +8,7 @@ pub mod draft;
 mod group;
 mod head;
 mod late;
+mod laws;
 mod lengths;
 mod lower;
 mod parse;
@@ -21,6 +22,7 @@ mod steps;
 
 pub use char_sets::{CharRange, CharSet};
 pub use draft::PatternDraft;
+pub use laws::{each_fault_fits_its_text, members_suffice, plain_texts_are_read, steps_suffice};
 pub use pattern::Pattern;
 pub use pattern_defs::{Anchor, Arm, Arms, ListId, ListIds, PatNode};
 pub use syntax_defs::PatternRefusal;
