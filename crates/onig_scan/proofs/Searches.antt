@@ -1,20 +1,18 @@
 -- Searches, pair by pair and place by place.
-use Rattle.std.proofs.Common.{◌≡◌, ℕ, zero, suc, ◌+◌, ◌-◌, ◌<◌, ◌≤◌, Bool, true, false, cond, List, [], ◌∷◌, ◌++◌, length, map, drop, get_or, All, Option, Some, None, refl, sym, ap, ◌∙◌, subst, arith}
+use Rattle.std.proofs.Common.{◌≡◌, ℕ, suc, ◌+◌, ◌-◌, ◌<◌, ◌≤◌, Bool, true, false, List, [], ◌∷◌, ◌++◌, length, drop, get_or, Option, Some, None, refl, sym, ap, ◌∙◌, subst, arith}
 use Rattle.std.specs.Prelude.{find}
 use Rattle.std.specs.List.{flat_map}
 use Rattle.std.specs.Option.{option_or}
 use Rattle.std.proofs.lemmas.List.Folds.{find-append}
-use Rattle.std.proofs.lemmas.List.{length-map}
 use Rattle.std.proofs.Math.Seq.{drop-cons}
 use Rattle.std.proofs.lemmas.List.Concat.{flat_map-cons}
 use Rattle.pattern_defs.specs.declared.outcomes.Flags.{Flags}
 use Rattle.pattern_defs.specs.declared.outcomes.Found.{Found}
 use Rattle.pattern_defs.specs.declared.outcomes.Found.TheVariants as found
-use Rattle.pattern_defs.specs.declared.outcomes.Outcome.{Outcome}
 use Rattle.pattern_defs.specs.declared.outcomes.Outcome.TheVariants as outcomes
 use Rattle.pattern_defs.specs.Patterns.{Tree}
-use Rattle.pattern_defs.specs.Attempt.{Ran, Hit, Miss, Spent, Captures, outcome_of, hit_after, attempt}
-use Rattle.pattern_defs.specs.FirstMatch.{Pair, pairs_at, places, pairs, tried, is_no_miss, first_of, first_pair, answer_by, found_at, captures_by, captures_at}
+use Rattle.pattern_defs.specs.Attempt.{Ran, Hit, Miss, Spent, outcome_of, attempt}
+use Rattle.pattern_defs.specs.FirstMatch.{Pair, pairs_at, places, pairs, tried, is_no_miss, first_of, first_pair, answer_by, found_at}
 
 -- an attempt that hits decides
 

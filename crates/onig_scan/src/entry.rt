@@ -1,6 +1,6 @@
 ghost use Rattle.std.specs.Prelude.{◌≡◌, ◌<◌, ◌≤◌, ◌^◌, length, IfOk};
 ghost use Rattle.std.specs.Rc.{rc_value};
-ghost use Rattle.pattern_defs.specs.Attempt.{outcome_of, hit_after, attempt as attempted};
+ghost use Rattle.pattern_defs.specs.Attempt.{outcome_of, last_hit_captures, attempt as attempted};
 
 use crate::front::{Front, MOST_DEEP, front_of};
 use onig_match::{Work, attempt};
@@ -52,7 +52,7 @@ impl Entry {
         requires inside { at ≤ length text.now }
         requires room { self.now.groups ≤ work.old.room }
         ensures outcome { result ≡ outcome_of (attempted self.now text.now at flags work.old.budget) }
-        ensures work { work.new ≡ record work.old { hit = hit_after (attempted self.now text.now at flags work.old.budget) work.old.hit } }
+        ensures work { work.new ≡ record work.old { hit = last_hit_captures (attempted self.now text.now at flags work.old.budget) work.old.hit } }
     {
         if let Some(front) = &self.front {
             if front.misses_at(text, at, work.budget()) {
