@@ -16,3 +16,4 @@ pub mod TextsThatStand
 pub mod MarkedColumns
 pub mod MarksInOrder
 pub mod TakenOpeners
+pub mod KeptMarks

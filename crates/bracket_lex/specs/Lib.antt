@@ -3,3 +3,4 @@ pub mod MarkLaws
 pub mod MarkedLine
 pub mod PairLaws
 pub mod Pairing
+pub mod RowLaws

@@ -17,7 +17,9 @@ pub use mark_laws::{marks_are_texts, marks_rise};
 pub use mark_lines::MarkLines;
 pub use paired::Paired;
 pub use pairing_defs::{BracketText, LineMark, Mark, Role, Row};
-pub use pairing_laws::{closers_take_the_last_opener, pairs_are_nested, partners_belong_together};
+pub use pairing_laws::{
+    closers_take_the_last_opener, pairs_are_nested, partners_belong_together, rows_are_marks,
+};
 
 #[cfg(test)]
 mod tests;

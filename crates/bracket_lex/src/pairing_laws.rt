@@ -1,4 +1,12 @@
+ghost use Rattle.bracket_lex.specs.RowLaws.{RowsAreMarksInOrder, ClosersHaveRows, MarksWithinTheLimitHaveRows};
 ghost use Rattle.bracket_lex.specs.PairLaws.{PartnersAreMutual, OpenersComeFirst, PartnersAreAlike, TheUnpairedHaveColourSix, PairsNeverCross, OpenersAreBelowTheLimit, PartnersAreBelowTheLimit, ClosersTakeTheLastOpener};
+
+/// Rows are marks, in order. Each closer has a row, and each opener where there are no more of them than the limit.
+pub fn rows_are_marks()
+    ensures in_order { RowsAreMarksInOrder }
+    ensures closers { ClosersHaveRows }
+    ensures within_limit { MarksWithinTheLimitHaveRows }
+{}
 
 /// However a text's marks are, the rows that `Paired` gives belong together in pairs of an opener and a closer.
 pub fn partners_belong_together()
