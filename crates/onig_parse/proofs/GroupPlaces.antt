@@ -19,10 +19,10 @@ use Rattle.onig_parse.proofs.PartPlaces.{Extent, PlacedSeen, PlacedBody, PlacedP
 abbrev pub EndsFrom : ℕ → Span → Type 0
 EndsFrom from span = from ≤ span.to
 
-closed_word-on : (close begin end from : ℕ) (word rest : List ℕ) → begin ≤ end → Within end (EndsFrom from) (closed_word close begin end from word rest)
-closed_word-on close begin end from word [] h = omega arith
-closed_word-on close begin end from word (c ∷ cs) h =
-    cond_both ((c == close) && not (is_empty word)) _ _ (Within end (EndsFrom from)) (λ _. omega arith) (λ _. h)
+closed_word-on : (close begin end from : ℕ) (found rest : List ℕ) → begin ≤ end → Within end (EndsFrom from) (closed_word close begin end from found rest)
+closed_word-on close begin end from found [] h = omega arith
+closed_word-on close begin end from found (c ∷ cs) h =
+    cond_both ((c == close) && not (is_empty found)) _ _ (Within end (EndsFrom from)) (λ _. omega arith) (λ _. h)
 
 pub word_at-on : (good : List ℕ → Bool) (close begin end from : ℕ) (cs : List ℕ) → begin ≤ end → Within end (EndsFrom from) (word_at good close begin end from cs)
 word_at-on good close begin end from cs h =
