@@ -19,10 +19,10 @@ use Rattle.onig_parse.proofs.PartPlaces.{Extent, PlacedSeen, PlacedBody, PlacedP
 abbrev pub EndsFrom : ℕ → Span → Type 0
 EndsFrom from span = from ≤ span.to
 
-closed_word-on : (close begin end from : ℕ) (word rest : List ℕ) → begin ≤ end → Within end (EndsFrom from) (closed_word close begin end from word rest)
-closed_word-on close begin end from word [] h = omega arith
-closed_word-on close begin end from word (c ∷ cs) h =
-    cond_both ((c == close) && not (is_empty word)) _ _ (Within end (EndsFrom from)) (λ _. omega arith) (λ _. h)
+closed_word-on : (close begin end from : ℕ) (found rest : List ℕ) → begin ≤ end → Within end (EndsFrom from) (closed_word close begin end from found rest)
+closed_word-on close begin end from found [] h = omega arith
+closed_word-on close begin end from found (c ∷ cs) h =
+    cond_both ((c == close) && not (is_empty found)) _ _ (Within end (EndsFrom from)) (λ _. omega arith) (λ _. h)
 
 pub word_at-on : (good : List ℕ → Bool) (close begin end from : ℕ) (cs : List ℕ) → begin ≤ end → Within end (EndsFrom from) (word_at good close begin end from cs)
 word_at-on good close begin end from cs h =
@@ -107,17 +107,17 @@ body_list-placed t from b s behind body =
     let are = items_of-placed t from b.ended b s behind body in
     record { seen = with_list-placed t (body_items b s).0 (body_items b s).1 are.seen are.placed; on = are.on }
 
-made-placed : (t : Extent) (begin from : ℕ) (head : Head) (number : ℕ) (b : Body) (s : Seen) → begin ≤ t.end → SeenFrom t from s → PlacedBody t b → PlacedItems t from (made head number begin b s).0 (made head number begin b s).1
-made-placed t begin from (Numbered name) number b s h behind body =
-    let list = body_list-placed t from b s behind body in record { seen = list.seen; placed = (tt, tt); on = list.on }
-made-placed t begin from (Plain options) number b s h behind body = items_of-placed t from b.ended b s behind body
-made-placed t begin from (Rest options) number b s h behind body = items_of-placed t from b.ended b s behind body
-made-placed t begin from (Ahead wanted) number b s h behind body =
-    let list = body_list-placed t from b s behind body in record { seen = list.seen; placed = (tt, tt); on = list.on }
-made-placed t begin from (Behind wanted) number b s h behind body =
+made-placed : (t : Extent) (begin : ℕ) (head : Head) (number : ℕ) (b : Body) (s : Seen) → begin ≤ t.end → SeenFrom t (begin + 1) s → PlacedBody t b → PlacedItems t (begin + 1) (made head number begin b s).0 (made head number begin b s).1
+made-placed t begin (Numbered name) number b s h behind body =
+    let list = body_list-placed t (begin + 1) b s behind body in record { seen = list.seen; placed = (tt, tt); on = list.on }
+made-placed t begin (Plain options) number b s h behind body = items_of-placed t (begin + 1) b.ended b s behind body
+made-placed t begin (Rest options) number b s h behind body = items_of-placed t (begin + 1) b.ended b s behind body
+made-placed t begin (Ahead wanted) number b s h behind body =
+    let list = body_list-placed t (begin + 1) b s behind body in record { seen = list.seen; placed = (tt, tt); on = list.on }
+made-placed t begin (Behind wanted) number b s h behind body =
     record { seen = with_list-placed t (open_items b) s behind.seen (open_items-placed t b body); placed = (t.inside begin h, tt); on = behind.on }
-made-placed t begin from Atomic number b s h behind body =
-    let list = body_list-placed t from b s behind body in record { seen = list.seen; placed = (tt, tt); on = list.on }
+made-placed t begin Atomic number b s h behind body =
+    let list = body_list-placed t (begin + 1) b s behind body in record { seen = list.seen; placed = (tt, tt); on = list.on }
 
 -- what a reader of bodies reads ends in the text, and its fault fits it
 abbrev pub KeepsPlaces : Extent → BodyReader → Type 0
@@ -132,4 +132,4 @@ group_at-placed t go options s keeps seen h =
     Within-bind t.end (λ r. PlacedPart t begun.place r.0 r.1) (λ r. PlacedItems t (s.place + 1) r.0 r.1) (go (inside head.0 options) begun) _ (keeps (inside head.0 options) begun first.seen) λ read part.
     Within-bind t.end (SeenFrom t (s.place + 1)) (λ r. PlacedItems t (s.place + 1) r.0 r.1) (closed head.0 read.1) _
     (closed-on t s.place head.0 read.1 h (record { seen = part.seen; on = let more = first.on in let further = part.on in omega arith })) λ ended behind.
-    made-placed t s.place (s.place + 1) head.0 begun.groups read.0 ended (omega arith) behind part.body
+    made-placed t s.place head.0 begun.groups read.0 ended (omega arith) behind part.body

@@ -8,7 +8,7 @@ use Rattle.syntax_defs.specs.declared.items.Sight.TheVariants.{End, Bar, Close, 
 use Rattle.syntax_defs.specs.Sights.{digits, behind_digits, begins_with, is_empty, range_sight, brace_sight, paren_sight, is_number_start, slash_sight, is_blank, plain_sight, sight_at}
 use Rattle.syntax_defs.specs.PatternSyntax.{comment_length}
 
--- the length that is told of what stands before these characters isn't none
+-- what is told of the length of what stands at the front of these characters is above 0
 abbrev pub Takes : (cs : List ℕ) → Sight → Type 0
 Takes cs End = Unit {0}
 Takes cs Bar = Unit {0}
@@ -72,18 +72,14 @@ sight_at-takes options (c ∷ cs) =
     cond_both (c == 92) _ _ (Takes (c ∷ cs)) (λ _. slash_sight-takes (c ∷ cs) cs) λ _.
     plain_sight-takes options c cs
 
+above_next : (count : ℕ) (o : Option ℕ) → IfSome o (λ n. count + 1 < n) → IfSome o (λ n. count < n)
+above_next count None more = tt
+above_next count (Some n) more = omega arith
+
 -- a comment has more characters than those that are counted already
 pub comment_length-more : (escaped : Bool) (count : ℕ) (cs : List ℕ) → IfSome (comment_length escaped count cs) (λ n. count < n)
 comment_length-more escaped count [] = tt
-comment_length-more true count (c ∷ cs) = from_next (comment_length false (count + 1) cs) (comment_length-more false (count + 1) cs)
-  where
-    from_next : (o : Option ℕ) → IfSome o (λ n. count + 1 < n) → IfSome o (λ n. count < n)
-    from_next None more = tt
-    from_next (Some n) more = omega arith
+comment_length-more true count (c ∷ cs) = above_next count (comment_length false (count + 1) cs) (comment_length-more false (count + 1) cs)
 comment_length-more false count (c ∷ cs) =
     cond_both (c == 41) _ _ (λ o. IfSome o (λ n. count < n)) (λ _. omega arith)
-    (λ _. from_next (comment_length (c == 92) (count + 1) cs) (comment_length-more (c == 92) (count + 1) cs))
-  where
-    from_next : (o : Option ℕ) → IfSome o (λ n. count + 1 < n) → IfSome o (λ n. count < n)
-    from_next None more = tt
-    from_next (Some n) more = omega arith
+    (λ _. above_next count (comment_length (c == 92) (count + 1) cs) (comment_length-more (c == 92) (count + 1) cs))
