@@ -1,3 +1,4 @@
+pub mod LevelLaws
 pub mod Longest
 pub mod MarkLaws
 pub mod MarkedLine

@@ -1,4 +1,5 @@
 ghost use Rattle.bracket_lex.specs.RowLaws.{RowsAreMarksInOrder, ClosersHaveRows, MarksWithinTheLimitHaveRows};
+ghost use Rattle.bracket_lex.specs.LevelLaws.{OpenersCountTheOpen, LoneClosersCountTheOpen};
 ghost use Rattle.bracket_lex.specs.PairLaws.{PartnersAreMutual, OpenersComeFirst, PartnersAreAlike, TheUnpairedHaveColourSix, PairsNeverCross, OpenersAreBelowTheLimit, PartnersAreBelowTheLimit, ClosersTakeTheLastOpener};
 
 /// Rows are marks, in order. Each closer has a row, and each opener where there are no more of them than the limit.
@@ -26,4 +27,10 @@ pub fn pairs_are_nested()
 /// No closer passes by an opener that it could close.
 pub fn closers_take_the_last_opener()
     ensures { ClosersTakeTheLastOpener }
+{}
+
+/// Levels are how many openers are open, and kind levels how many of one kind.
+pub fn levels_count_open_rows()
+    ensures openers { OpenersCountTheOpen }
+    ensures closers { LoneClosersCountTheOpen }
 {}
