@@ -21,3 +21,4 @@ pub mod OpenStacks
 pub mod StackRuns
 pub mod EntryRows
 pub mod Levels
+pub mod Insides

@@ -1,3 +1,4 @@
+pub mod InsideLaws
 pub mod LevelLaws
 pub mod Longest
 pub mod MarkLaws
