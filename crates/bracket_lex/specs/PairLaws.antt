@@ -19,12 +19,12 @@ pub record ArePartners (rows : List Row) (i j : ℕ) (row other : Row) : Type 0 
   pub first : HasPartner rows i row j
   pub second : slice_get rows j ≡ Some other
 
--- the mark is a closer of that kind
+-- the role of a closer of that kind
 abbrev pub ClosesKind : Role → ℕ → Type 0
 ClosesKind (Opener own) kind = ⊥
 ClosesKind (Closer kinds) kind = has_kind kinds kind ≡ true
 
--- the one mark opens a kind, and the other closes that kind
+-- the roles of an opener and of a closer of its kind
 abbrev pub OpensFor : Role → Role → Type 0
 OpensFor (Opener kind) closer = ClosesKind closer kind
 OpensFor (Closer kinds) closer = ⊥
