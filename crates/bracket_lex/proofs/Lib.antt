@@ -17,3 +17,8 @@ pub mod MarkedColumns
 pub mod MarksInOrder
 pub mod TakenOpeners
 pub mod KeptMarks
+pub mod OpenStacks
+pub mod StackRuns
+pub mod EntryRows
+pub mod Levels
+pub mod Insides

@@ -86,7 +86,7 @@ pub row_mark : (end : Pos) (n : ℕ) (p : Placed) (role : Role) (removal : Optio
 row_mark end n p (Opener kind) removal = refl
 row_mark end n p (Closer kinds) removal = refl
 
-row_level : (end : Pos) (n : ℕ) (p : Placed) (role : Role) (removal : Option Removal) → (row_of end n p role removal).level ≡ p.level
+pub row_level : (end : Pos) (n : ℕ) (p : Placed) (role : Role) (removal : Option Removal) → (row_of end n p role removal).level ≡ p.level
 row_level end n p (Opener kind) removal = refl
 row_level end n p (Closer kinds) removal = refl
 

@@ -8,7 +8,7 @@ use Rattle.pairing_defs.specs.declared.Role.TheVariants.{Opener, Closer}
 use Rattle.pairing_defs.specs.declared.Mark.{Mark}
 use Rattle.pairing_defs.specs.declared.Row.{Row}
 use Rattle.pairing_defs.specs.Pairing.{Placed, Removal, removal_of, closer_of, row_by, row_of, rows_from, placed_from, nothing_open, paired}
-use Rattle.bracket_lex.specs.PairLaws.{HasPartner, ClosesKind, OpensFor, PartnersAreMutual, OpenersComeFirst, PartnersAreAlike, TheUnpairedHaveColourSix}
+use Rattle.bracket_lex.specs.PairLaws.{HasPartner, ClosesKind, OpensFor, PartnersAreMutual, OpenersComeFirst, PartnersAreAlike, ColoursGoByLevel, TheUnpairedHaveColourSix}
 use Rattle.bracket_lex.proofs.RowPlaces.{slice_get-drop, finished, RowAt, row_at, row_made, FirstCloser, first_closer}
 use Rattle.bracket_lex.proofs.ClosedRows.{ByRow, closer_of_row}
 
@@ -130,6 +130,12 @@ partners_are_alike limit end ms i j row other h = elim (partner_pair limit end m
   | inr pair ↦
       let same = alike (placed_from limit nothing_open ms) j i other row pair (opener_is end (placed_from limit nothing_open ms) j i other pair h.second) (closer_is end (placed_from limit nothing_open ms) j i row pair h.first.there) in
       (sym same.0, sym same.1, sym same.2)
+]
+
+pub colours_go_by_level : ColoursGoByLevel
+colours_go_by_level limit end ms i j row h = elim (partner_pair limit end ms i j row h) [
+  | inl pair ↦ rw (opener_is end (placed_from limit nothing_open ms) i j row pair h.there) refl
+  | inr pair ↦ rw (closer_is end (placed_from limit nothing_open ms) j i row pair h.there) refl
 ]
 
 colour_by : (end : Pos) (n : ℕ) (p : Placed) (role : Role) (removal : Option Removal) → (row_of end n p role removal).partner ≡ None → (row_of end n p role removal).colour ≡ 6

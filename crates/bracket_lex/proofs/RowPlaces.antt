@@ -67,10 +67,11 @@ pub record FirstCloser (n next : ℕ) (ps : List Placed) (r : Removal) : Type 0 
   pub placed : Placed
   pub there : slice_get ps place ≡ Some placed
   pub closes : placed.closes ≡ Some r.closes
+  pub start : r.start ≡ placed.mark.at
   pub within : r.closes ≤ n
 
 further : (n next : ℕ) (p : Placed) (ps : List Placed) (r : Removal) → FirstCloser n (next + 1) ps r → FirstCloser n next (p ∷ ps) r
-further n next p ps r f = record { place = suc f.place; number = omega arith; placed = f.placed; there = f.there; closes = f.closes; within = f.within }
+further n next p ps r f = record { place = suc f.place; number = omega arith; placed = f.placed; there = f.there; closes = f.closes; start = f.start; within = f.within }
 
 first_by : (n next : ℕ) (p : Placed) (ps : List Placed) (r : Removal) (closes : Option ℕ) → p.closes ≡ closes
     → removal_by n next p closes (removal_of n (next + 1) ps) ≡ Some r
@@ -80,9 +81,10 @@ first_by n next p ps r None is found later = further n next p ps r (later found)
 first_by n next p ps r (Some c) is found later = elim (cases_Bool (nat_le c n)) [
   | inl here ↦
       let made : Some (record { row = next; start = p.mark.at; closes = c }) ≡ Some r = rw here at found in
+      let same : r ≡ record { row = next; start = p.mark.at; closes = c } = cc in
       let closed : c ≡ r.closes = cc in
       let number : next ≡ r.row = cc in
-      record { place = 0; number = omega arith; placed = p; there = refl; closes = rw (← closed) is; within = omega (arith, leb-true c n here) }
+      record { place = 0; number = omega arith; placed = p; there = refl; closes = rw (← closed) is; start = ap (λ x. x.start) same; within = omega (arith, leb-true c n here) }
   | inr other ↦ further n next p ps r (later (rw other at found))
 ]
 
@@ -114,3 +116,22 @@ none_earlier n next at c (q ∷ ps) zero p r there closes within e found =
     omega arith
 none_earlier n next at c (q ∷ ps) (suc k) p r there closes within e found =
     none_earlier_by n next at q ps r q.closes found (omega arith) (none_earlier n (next + 1) at c ps k p r there closes within (omega arith))
+
+none_closes_by : (n next c : ℕ) (q : Placed) (ps : List Placed) (closes : Option ℕ) → removal_by n next q closes (removal_of n (next + 1) ps) ≡ None → (removal_of n (next + 1) ps ≡ None → ⊥) → ⊥
+none_closes_by n next c q ps None none later = later none
+none_closes_by n next c q ps (Some closed) none later = elim (cases_Bool (nat_le closed n)) [
+  | inl here ↦
+      let r : Removal = record { row = next; start = q.mark.at; closes = closed } in
+      let some : Some r ≡ None = rw here at none in
+      cc
+  | inr other ↦ later (rw other at none)
+]
+
+-- where there is none, no row behind closes the row or one before it
+pub none_closes : (n next c : ℕ) (ps : List Placed) (k : ℕ) (p : Placed) → removal_of n next ps ≡ None → slice_get ps k ≡ Some p → p.closes ≡ Some c → c ≤ n → ⊥
+none_closes n next c [] k p none there closes within = cc
+none_closes n next c (q ∷ ps) zero p none there closes within =
+    let here : q.closes ≡ Some c = cc in
+    let made = closes_here n next c q ps here within in
+    cc
+none_closes n next c (q ∷ ps) (suc k) p none there closes within = none_closes_by n next c q ps q.closes none (λ later. none_closes n (next + 1) c ps k p later there closes within)

@@ -1,3 +1,5 @@
+pub mod InsideLaws
+pub mod LevelLaws
 pub mod Longest
 pub mod MarkLaws
 pub mod MarkedLine

@@ -24,7 +24,7 @@ pub record IsMarkOf (texts : List BracketText) (line : List ℕ) (mark : LineMar
   pub longest : (other : BracketText) → IsOneOf other texts → Stands line mark.from other.text → length other.text ≤ length b.text
   pub first : (other : BracketText) (o : IsOneOf other texts) → Stands line mark.from other.text → length other.text ≡ length b.text → listed.place ≤ o.place
 
--- a mark has a column, and ends in the line
+-- a mark isn't empty, and ends in the line
 abbrev pub MarksAreInTheLine : Type 0
 MarksAreInTheLine = (texts : List BracketText) (long : ℕ) (line : List ℕ) (k : ℕ) (mark : LineMark) → slice_get (marks_of texts long line) k ≡ Some mark
     → (mark.from < mark.to) × (mark.to ≤ length line)

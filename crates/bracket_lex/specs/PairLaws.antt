@@ -1,6 +1,6 @@
 -- Laws of the rows of a text, whatever its marks, its end and the limit on nesting: how partners belong together.
 -- That they hold is this project's own.
-use Rattle.std.specs.Prelude.{◌≡◌, ℕ, ◌<◌, ◌≤◌, ◌⊎◌, List, Some, None, true, slice_get}
+use Rattle.std.specs.Prelude.{◌≡◌, ℕ, ◌%◌, ◌<◌, ◌≤◌, ◌⊎◌, List, Some, None, true, slice_get}
 use Rattle.text_pos.specs.declared.length.Pos.{Pos}
 use Rattle.text_pos.specs.KindSet.{has_kind}
 use Rattle.pairing_defs.specs.declared.Role.{Role}
@@ -19,12 +19,12 @@ pub record ArePartners (rows : List Row) (i j : ℕ) (row other : Row) : Type 0 
   pub first : HasPartner rows i row j
   pub second : slice_get rows j ≡ Some other
 
--- the mark is a closer of that kind
+-- the role of a closer of that kind
 abbrev pub ClosesKind : Role → ℕ → Type 0
 ClosesKind (Opener own) kind = ⊥
 ClosesKind (Closer kinds) kind = has_kind kinds kind ≡ true
 
--- the one mark opens a kind, and the other closes that kind
+-- the roles of an opener and of a closer of its kind
 abbrev pub OpensFor : Role → Role → Type 0
 OpensFor (Opener kind) closer = ClosesKind closer kind
 OpensFor (Closer kinds) closer = ⊥
@@ -43,6 +43,10 @@ OpenersComeFirst = (limit : ℕ) (end : Pos) (marks : List Mark) (i j : ℕ) (ro
 abbrev pub PartnersAreAlike : Type 0
 PartnersAreAlike = (limit : ℕ) (end : Pos) (marks : List Mark) (i j : ℕ) (row other : Row) → ArePartners (paired limit end marks) i j row other
     → (row.level ≡ other.level) × (row.own ≡ other.own) × (row.colour ≡ other.colour)
+
+-- their colour goes by their level: 0 to 5 in turn
+abbrev pub ColoursGoByLevel : Type 0
+ColoursGoByLevel = (limit : ℕ) (end : Pos) (marks : List Mark) (i j : ℕ) (row : Row) → HasPartner (paired limit end marks) i row j → row.colour ≡ row.level % 6
 
 -- a row without partner has colour 6
 abbrev pub TheUnpairedHaveColourSix : Type 0

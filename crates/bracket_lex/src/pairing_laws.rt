@@ -1,5 +1,7 @@
 ghost use Rattle.bracket_lex.specs.RowLaws.{RowsAreMarksInOrder, ClosersHaveRows, MarksWithinTheLimitHaveRows};
-ghost use Rattle.bracket_lex.specs.PairLaws.{PartnersAreMutual, OpenersComeFirst, PartnersAreAlike, TheUnpairedHaveColourSix, PairsNeverCross, OpenersAreBelowTheLimit, PartnersAreBelowTheLimit, ClosersTakeTheLastOpener};
+ghost use Rattle.bracket_lex.specs.LevelLaws.{OpenersCountTheOpen, LoneClosersCountTheOpen};
+ghost use Rattle.bracket_lex.specs.InsideLaws.{InsidesEndAtTheFirstCloser, OpenInsidesEndWithTheText, ClosersHaveNoInside};
+ghost use Rattle.bracket_lex.specs.PairLaws.{PartnersAreMutual, OpenersComeFirst, PartnersAreAlike, ColoursGoByLevel, TheUnpairedHaveColourSix, PairsNeverCross, OpenersAreBelowTheLimit, PartnersAreBelowTheLimit, ClosersTakeTheLastOpener};
 
 /// Rows are marks, in order. Each closer has a row, and each opener where there are no more of them than the limit.
 pub fn rows_are_marks()
@@ -13,6 +15,7 @@ pub fn partners_belong_together()
     ensures mutually { PartnersAreMutual }
     ensures in_order { OpenersComeFirst }
     ensures alike { PartnersAreAlike }
+    ensures colour { ColoursGoByLevel }
     ensures unpaired { TheUnpairedHaveColourSix }
 {}
 
@@ -26,4 +29,17 @@ pub fn pairs_are_nested()
 /// No closer passes by an opener that it could close.
 pub fn closers_take_the_last_opener()
     ensures { ClosersTakeTheLastOpener }
+{}
+
+/// Levels are how many openers are open, and kind levels how many of one kind.
+pub fn levels_count_open_rows()
+    ensures openers { OpenersCountTheOpen }
+    ensures closers { LoneClosersCountTheOpen }
+{}
+
+/// The inside of an opener ends where it is closed off, or with the text.
+pub fn insides_end_where_closed_off()
+    ensures closed_off { InsidesEndAtTheFirstCloser }
+    ensures left_open { OpenInsidesEndWithTheText }
+    ensures closers { ClosersHaveNoInside }
 {}
