@@ -1,3 +1,4 @@
+pub mod ArenaLemmas
 pub mod ListLemmas
 pub mod TextLemmas
 pub mod BodySteps

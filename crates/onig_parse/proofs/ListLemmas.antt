@@ -1,5 +1,5 @@
 -- Lists of nodes that name earlier lists and groups up to a number.
-use Rattle.std.proofs.Common.{◌≡◌, ℕ, zero, suc, ◌+◌, ◌<◌, ◌≤◌, List, [], ◌∷◌, ◌++◌, length, map, get_or, take, ap, sym, ◌∙◌, arith}
+use Rattle.std.proofs.Common.{◌≡◌, ℕ, zero, suc, ◌+◌, ◌<◌, ◌≤◌, List, [], ◌∷◌, ◌++◌, length, map, get_or, take, ap, ◌∙◌, arith}
 use Rattle.std.proofs.lemmas.List.{take_more, map_push}
 use Rattle.std.specs.Prelude.{slice_get, unwrap_or}
 use Rattle.pattern_defs.specs.declared.nodes.ListId.{ListId}
@@ -58,12 +58,6 @@ pub AreNodes-list : (n g : ℕ) (lists : NodeLists) (k m : ℕ) → AreLists n g
 AreNodes-list n g [] k m are h room = absurd (omega arith)
 AreNodes-list n g (nodes ∷ lists) zero m are h room = AreNodes-widen n m g g nodes (omega arith) (omega arith) are.0
 AreNodes-list n g (nodes ∷ lists) (suc k) m are h room = AreNodes-list (n + 1) g lists k m are.1 (omega arith) (omega arith)
-
--- an element that was read, seen as a list
-pub nodes_of-read : {X : Type 0} (f : X → List PatNode) (xs : List X) (k : ℕ) (x : X) → k < length xs → x ≡ get_or xs k x → unwrap_or (slice_get (map f xs) k) [] ≡ f x
-nodes_of-read f [] k x h e = absurd (omega arith)
-nodes_of-read f (y ∷ xs) zero x h e = ap f (sym e)
-nodes_of-read f (y ∷ xs) (suc k) x h e = nodes_of-read f xs k x (omega arith) e
 
 -- one element more, each seen by a function
 pub map_more : {X Y : Type 0} (f : X → Y) (xs : List X) (i : ℕ) (d : X) → i < length xs → map f (take (i + 1) xs) ≡ map f (take i xs) ++ f (get_or xs i d) ∷ []

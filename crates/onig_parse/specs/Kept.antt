@@ -1,21 +1,19 @@
--- How a pattern keeps its lists, and a draft those that it has so far.
-use Rattle.std.specs.Prelude.{◌≡◌, ◌<◌, length, map, sum_by}
+-- What a pattern is with the lists that it keeps, and a draft with those that it has so far.
+use Rattle.std.specs.Prelude.{◌<◌, length}
 use Rattle.pattern_defs.specs.Patterns.{Tree, AreLists}
 use Rattle.onig_parse.specs.Drafts.{Drafted}
 use Rattle.onig_parse.specs.declared.pattern.Pattern.TheInside.{Inside}
 use Rattle.onig_parse.specs.declared.draft.PatternDraft.TheInside as draft
 
 abbrev pub tree_of : Inside → Tree
-tree_of p = record { lists = map (λ nodes. nodes.items) p.lists.items; top = p.top; groups = p.groups }
+tree_of p = record { lists = p.arena; top = p.top; groups = p.groups }
 
 pub record IsKept (p : Inside) : Type 0 where
-  pub lists : AreLists 0 p.groups (map (λ nodes. nodes.items) p.lists.items)
-  pub top : p.top.0 < length p.lists.items
-  pub size : p.size ≡ sum_by length (map (λ nodes. nodes.items) p.lists.items)
+  pub lists : AreLists 0 p.groups p.arena
+  pub top : p.top.0 < length p.arena
 
 abbrev pub drafted : draft.Inside → Drafted
-drafted d = record { lists = map (λ nodes. nodes.items) d.lists.items; named = d.named }
+drafted d = record { lists = d.arena; named = d.named }
 
-pub record IsDraft (d : draft.Inside) : Type 0 where
-  pub lists : AreLists 0 d.named (map (λ nodes. nodes.items) d.lists.items)
-  pub size : d.size ≡ sum_by length (map (λ nodes. nodes.items) d.lists.items)
+abbrev pub IsDraft : draft.Inside → Type 0
+IsDraft d = AreLists 0 d.named d.arena

@@ -1,3 +1,4 @@
+pub mod Arena
 pub mod Drafts
 pub mod Formed
 pub mod Kept

@@ -1,7 +1,7 @@
 ghost use Rattle.std.specs.Prelude.{◌≡◌, ◌<◌, ◌≤◌, [], ◌∷◌, ◌++◌, length, max, IfOk, OnOk, OnErr};
 ghost use Rattle.pattern_defs.specs.Patterns.{AreNodes};
 
-use crate::count::counted;
+use crate::arena::NodeArena;
 use crate::pattern::Pattern;
 use pattern_defs::{ListId, PatNode};
 use std::alloc::{AllocError, Global};
@@ -11,8 +11,7 @@ use std::marker::Model;
 /// nodes may name groups.
 #[derive(Debug, Drop)]
 pub struct PatternDraft {
-    lists: Vec<Vec<PatNode>>,
-    size: u32,
+    arena: NodeArena,
     named: u32,
 }
 
@@ -33,8 +32,7 @@ impl PatternDraft {
         ensures { result ≡ record { lists = []; named = 0 } }
     {
         PatternDraft {
-            lists: Vec::new(alloc),
-            size: 0,
+            arena: NodeArena::new(alloc),
             named: 0,
         }
     }
@@ -54,11 +52,7 @@ impl PatternDraft {
         ensures ok { OnOk result (self.new ≡ record self.old { lists = self.old.lists ++ nodes.items ∷ [] }) }
         ensures err { OnErr result (self.new ≡ self.old) }
     {
-        let number = counted(0, self.lists.len())?;
-        let size = counted(self.size, nodes.len())?;
-        self.lists.push(nodes)?;
-        self.size = size;
-        Ok(ListId(number))
+        self.arena.push_list(nodes)
     }
 
     /// The pattern whose whole is the list `top`.
@@ -67,7 +61,7 @@ impl PatternDraft {
         requires groups { self.named ≤ groups }
         ensures { result ≡ record { lists = self.lists; top = top; groups = groups } }
     {
-        Pattern::of_lists(self.lists, self.size, top, groups)
+        Pattern::of_arena(self.arena, top, groups)
     }
 }
 

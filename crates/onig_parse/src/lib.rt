@@ -1,6 +1,7 @@
 //! Patterns: how they are kept, and how they are read from their text.
 #![tactic(auto)]
 
+mod arena;
 mod arms;
 mod body;
 mod count;

@@ -1,15 +1,15 @@
-ghost use Rattle.std.specs.Prelude.{◌≡◌, ◌<◌, length, map, sum_by};
+ghost use Rattle.std.specs.Prelude.{◌≡◌, ◌<◌, length};
 ghost use Rattle.std.specs.List.{list_all};
 ghost use Rattle.pattern_defs.specs.Patterns.{Tree, nodes_of, size_of, is_flat, is_plain, AllIds, AreNodes, AreLists};
 
+use crate::arena::NodeArena;
 use pattern_defs::{ListId, PatNode};
 use std::marker::Model;
 
 /// A pattern, as numbered lists of nodes.
 #[derive(Debug, Drop)]
 pub struct Pattern {
-    lists: Vec<Vec<PatNode>>,
-    size: u32,
+    arena: NodeArena,
     top: ListId,
     groups: u32,
 }
@@ -27,19 +27,13 @@ impl Model for Pattern {
 }
 
 impl Pattern {
-    /// The pattern of these lists, whose number of nodes the caller has counted.
-    pub(crate) fn of_lists(lists: Vec<Vec<PatNode>>, size: u32, top: ListId, groups: u32) -> Pattern
-        requires lists { AreLists 0 groups (map (λ nodes. nodes.items) lists.items) }
-        requires top { top.0 < length lists.items }
-        requires size { size ≡ sum_by length (map (λ nodes. nodes.items) lists.items) }
-        ensures { result ≡ record { lists = map (λ nodes. nodes.items) lists.items; top = top; groups = groups } }
+    /// The pattern whose whole is the list `top`.
+    pub(crate) fn of_arena(arena: NodeArena, top: ListId, groups: u32) -> Pattern
+        requires lists { AreLists 0 groups arena }
+        requires top { top.0 < length arena }
+        ensures { result ≡ record { lists = arena; top = top; groups = groups } }
     {
-        Pattern {
-            lists,
-            size,
-            top,
-            groups,
-        }
+        Pattern { arena, top, groups }
     }
 
     /// The list that is the whole pattern.
@@ -62,7 +56,7 @@ impl Pattern {
     pub fn size(&self) -> u32
         ensures { result ≡ size_of self.now }
     {
-        self.size
+        self.arena.size()
     }
 
     /// The nodes of a list.
@@ -71,7 +65,7 @@ impl Pattern {
         ensures nodes { result.now ≡ nodes_of self.now.lists id }
         ensures names { AreNodes (length self.now.lists) self.now.groups result.now }
     {
-        self.lists[id.0 as usize].as_slice()
+        self.arena.list(id)
     }
 
     /// Whether it is a list of single characters and anchors, or one set of alternatives of such lists.

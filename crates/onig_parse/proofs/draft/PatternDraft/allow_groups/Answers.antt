@@ -5,4 +5,4 @@ use Rattle.onig_parse.proofs.draft.PatternDraft.allow_groups.Goals as goal
 pub invariant_of-self : goal.invariant_of-self
 invariant_of-self c =
     let more : c.self.inside.named ≤ c.max-self-inside.result = rw c.max-self-inside.ensures (omega arith) in
-    record { lists = AreLists-raise 0 _ _ _ more c.self.invariant.lists; size = c.self.invariant.size }
+    AreLists-raise 0 _ _ _ more c.self.invariant
