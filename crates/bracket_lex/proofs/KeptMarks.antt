@@ -12,14 +12,14 @@ use Rattle.pairing_defs.specs.Pairing.{Entry, Open, Placed, from_last, closer_ro
 use Rattle.bracket_lex.specs.RowLaws.{opens, closes, marks_of_rows, IsPartOf, RowsAreMarksInOrder, ClosersHaveRows, MarksWithinTheLimitHaveRows}
 use Rattle.bracket_lex.proofs.NestedPairs.{row_mark}
 
-abbrev marks_placed : List Placed → List Mark
+abbrev pub marks_placed : List Placed → List Mark
 marks_placed ps = map (λ p. p.mark) ps
 
-finished_marks : (end : Pos) (n : ℕ) (ps : List Placed) → marks_of_rows (rows_from end n ps) ≡ marks_placed ps
+pub finished_marks : (end : Pos) (n : ℕ) (ps : List Placed) → marks_of_rows (rows_from end n ps) ≡ marks_placed ps
 finished_marks end n [] = refl
 finished_marks end n (p ∷ ps) = rw (row_mark end n p p.mark.role (removal_of n (n + 1) ps), finished_marks end (n + 1) ps) refl
 
-closer_mark : (state : Open) (m : Mark) (found : List Entry) → (closer_row state m found).mark ≡ m
+pub closer_mark : (state : Open) (m : Mark) (found : List Entry) → (closer_row state m found).mark ≡ m
 closer_mark state m [] = refl
 closer_mark state m (entry ∷ below) = refl
 

@@ -16,8 +16,8 @@ use Rattle.bracket_lex.specs.LevelLaws.{Counts, IsOpenAt, IsOpen, OpenersCountTh
 use Rattle.bracket_lex.proofs.RowPlaces.{finished, RowAt, row_at, row_made}
 use Rattle.bracket_lex.proofs.OpenEntries.{stack_more}
 use Rattle.bracket_lex.proofs.LastOpeners.{Off}
-use Rattle.bracket_lex.proofs.OpenStacks.{IsIn, IsNew, StackAt}
-use Rattle.bracket_lex.proofs.StackRuns.{stack_before}
+use Rattle.bracket_lex.proofs.OpenStacks.{IsIn, IsNew, HasLevels, StackAt}
+use Rattle.bracket_lex.proofs.StackRuns.{stacks_of}
 use Rattle.bracket_lex.proofs.PairedRows.{partner_pair}
 use Rattle.bracket_lex.proofs.NestedPairs.{row_mark, row_level}
 use Rattle.bracket_lex.proofs.TakenOpeners.{closed_off, role_of}
@@ -48,16 +48,16 @@ open_by limit end ms i e new stays =
     }
 
 -- an open entry is an open row
-entry_open : (limit : ℕ) (end : Pos) (ms : List Mark) (i : ℕ) (q : Placed) (t : StackAt nothing_open (placed_from limit nothing_open ms) i q) (e : Entry) → IsIn e t.stack → IsOpenAt (paired limit end ms) i e.row e.kind
-entry_open limit end ms i q t e among = elim (t.from e among) [
+entry_open : (limit : ℕ) (end : Pos) (ms : List Mark) (i : ℕ) (Is : List Entry → Type 0) (t : StackAt nothing_open (placed_from limit nothing_open ms) i Is) (e : Entry) → IsIn e t.stack → IsOpenAt (paired limit end ms) i e.row e.kind
+entry_open limit end ms i Is t e among = elim (t.from e among) [
   | inl old ↦ absurd old.1
   | inr new ↦ open_by limit end ms i e new (t.stays e among)
 ]
 
 -- and an open row is an open entry
-open_entry : (limit : ℕ) (end : Pos) (ms : List Mark) (i k kind : ℕ) (q : Placed) (t : StackAt nothing_open (placed_from limit nothing_open ms) i q) → IsOpenAt (paired limit end ms) i k kind
+open_entry : (limit : ℕ) (end : Pos) (ms : List Mark) (i k kind : ℕ) (Is : List Entry → Type 0) (t : StackAt nothing_open (placed_from limit nothing_open ms) i Is) → IsOpenAt (paired limit end ms) i k kind
     → IsIn (record { row = k; kind = kind }) t.stack
-open_entry limit end ms i k kind q t o =
+open_entry limit end ms i k kind Is t o =
     let r : RowAt end k (placed_from limit nothing_open ms) k o.opener = row_at end (placed_from limit nothing_open ms) k o.opener o.there in
     let new : IsNew 0 (placed_from limit nothing_open ms) i (record { row = k; kind = kind }) =
     record { place = k; number = omega arith; before = o.before; placed = r.placed; there = r.there; role = role_of end (placed_from limit nothing_open ms) k o.opener r ∙ o.role } in
@@ -67,20 +67,20 @@ open_entry limit end ms i k kind q t o =
     ]
 
 -- ---- the counts
-all_open : (limit : ℕ) (end : Pos) (ms : List Mark) (i level : ℕ) (q : Placed) (t : StackAt nothing_open (placed_from limit nothing_open ms) i q) → level ≡ length t.stack → Counts i (IsOpen (paired limit end ms) i) level
-all_open limit end ms i level q t is =
+pub all_open : (limit : ℕ) (end : Pos) (ms : List Mark) (i level : ℕ) (Is : List Entry → Type 0) (t : StackAt nothing_open (placed_from limit nothing_open ms) i Is) → level ≡ length t.stack → Counts i (IsOpen (paired limit end ms) i) level
+all_open limit end ms i level Is t is =
     counted i (IsOpen (paired limit end ms) i) t.stack level (stack_more (0 + i) i t.stack t.falls (omega arith)) (sym is)
-    (λ e among. (e.kind, entry_open limit end ms i q t e among))
-    (λ k holds. record { entry = record { row = k; kind = holds.0 }; row = refl; among = open_entry limit end ms i k holds.0 q t holds.1 })
+    (λ e among. (e.kind, entry_open limit end ms i Is t e among))
+    (λ k holds. record { entry = record { row = k; kind = holds.0 }; row = refl; among = open_entry limit end ms i k holds.0 Is t holds.1 })
 
-open_of_kind : (limit : ℕ) (end : Pos) (ms : List Mark) (i kind own : ℕ) (q : Placed) (t : StackAt nothing_open (placed_from limit nothing_open ms) i q) → own ≡ of_kind kind t.stack
+open_of_kind : (limit : ℕ) (end : Pos) (ms : List Mark) (i kind own : ℕ) (Is : List Entry → Type 0) (t : StackAt nothing_open (placed_from limit nothing_open ms) i Is) → own ≡ of_kind kind t.stack
     → Counts i (λ k. IsOpenAt (paired limit end ms) i k kind) own
-open_of_kind limit end ms i kind own q t is =
+open_of_kind limit end ms i kind own Is t is =
     counted i (λ k. IsOpenAt (paired limit end ms) i k kind) (filter (is_of kind) t.stack) own
     (filter_falls (is_of kind) i t.stack (stack_more (0 + i) i t.stack t.falls (omega arith)))
     (length-filter (is_of kind) t.stack ∙ sym is)
-    (λ e among. (let f : Filtered (is_of kind) t.stack e = from_filter (is_of kind) t.stack e among.0 among.1 in subst (IsOpenAt (paired limit end ms) i e.row) (eqb-true e.kind kind f.passes) (entry_open limit end ms i q t e f.among)))
-    (λ k holds. (let among : IsIn (record { row = k; kind = kind }) t.stack = open_entry limit end ms i k kind q t holds in
+    (λ e among. (let f : Filtered (is_of kind) t.stack e = from_filter (is_of kind) t.stack e among.0 among.1 in subst (IsOpenAt (paired limit end ms) i e.row) (eqb-true e.kind kind f.passes) (entry_open limit end ms i Is t e f.among)))
+    (λ k holds. (let among : IsIn (record { row = k; kind = kind }) t.stack = open_entry limit end ms i k kind Is t holds in
     record { entry = record { row = k; kind = kind }; row = refl; among = into_filter (is_of kind) t.stack (record { row = k; kind = kind }) among.0 among.1 (eq-eqb kind kind refl) }))
 
 -- ---- the laws
@@ -118,13 +118,13 @@ levelled limit end ms i row there =
 pub openers_count_the_open : OpenersCountTheOpen
 openers_count_the_open limit end ms i kind row there opens =
     let r : Levelled limit end ms i row = levelled limit end ms i row there in
-    let t : StackAt nothing_open (placed_from limit nothing_open ms) i r.placed = stack_before limit ms i r.placed r.there in
-    let levels = t.levels.opener kind (r.role ∙ opens) in
-    (all_open limit end ms i row.level r.placed t (r.level ∙ levels.0), open_of_kind limit end ms i kind row.own r.placed t (r.own ∙ levels.1))
+    let t : StackAt nothing_open (placed_from limit nothing_open ms) i (HasLevels r.placed) = (stacks_of limit ms).before i r.placed r.there in
+    let levels = t.is.opener kind (r.role ∙ opens) in
+    (all_open limit end ms i row.level (HasLevels r.placed) t (r.level ∙ levels.0), open_of_kind limit end ms i kind row.own (HasLevels r.placed) t (r.own ∙ levels.1))
 
 pub lone_closers_count_the_open : LoneClosersCountTheOpen
 lone_closers_count_the_open limit end ms i kinds row there closes none =
     let r : Levelled limit end ms i row = levelled limit end ms i row there in
-    let t : StackAt nothing_open (placed_from limit nothing_open ms) i r.placed = stack_before limit ms i r.placed r.there in
-    let levels = t.levels.alone kinds (r.role ∙ closes) (r.closes kinds closes ∙ none) in
-    (all_open limit end ms i row.level r.placed t (r.level ∙ levels.0), r.own ∙ levels.1)
+    let t : StackAt nothing_open (placed_from limit nothing_open ms) i (HasLevels r.placed) = (stacks_of limit ms).before i r.placed r.there in
+    let levels = t.is.alone kinds (r.role ∙ closes) (r.closes kinds closes ∙ none) in
+    (all_open limit end ms i row.level (HasLevels r.placed) t (r.level ∙ levels.0), r.own ∙ levels.1)

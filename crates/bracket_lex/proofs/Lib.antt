@@ -22,3 +22,4 @@ pub mod StackRuns
 pub mod EntryRows
 pub mod Levels
 pub mod Insides
+pub mod NextMarks

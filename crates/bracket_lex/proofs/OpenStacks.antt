@@ -1,5 +1,5 @@
 -- The open entries before a row are the openers before it that aren't closed off.
-use Rattle.std.proofs.Common.{◌≡◌, ℕ, zero, suc, ◌+◌, ◌<◌, ◌≤◌, ◌⊎◌, List, ◌∷◌, length, Some, None, refl, ap, ◌∙◌, arith, inl, inr}
+use Rattle.std.proofs.Common.{◌≡◌, ℕ, zero, suc, ◌+◌, ◌<◌, ◌≤◌, ◌⊎◌, List, [], ◌∷◌, length, Some, None, refl, ap, ◌∙◌, arith, inl, inr, subst}
 use Rattle.std.specs.Prelude.{slice_get}
 use Rattle.text_pos.specs.declared.kinds.Kinds.{Kinds}
 use Rattle.pairing_defs.specs.declared.Role.TheVariants.{Opener, Closer}
@@ -24,18 +24,20 @@ pub record HasLevels (q : Placed) (stack : List Entry) : Type 0 where
   pub opener : (kind : ℕ) → q.mark.role ≡ Opener kind → (q.level ≡ length stack) × (q.own ≡ of_kind kind stack)
   pub alone : (kinds : Kinds) → q.mark.role ≡ Closer kinds → q.closes ≡ None → (q.level ≡ length stack) × (q.own ≡ 0)
 
--- the entries that are open before item x
-pub record StackAt (state : Open) (ps : List Placed) (x : ℕ) (q : Placed) : Type 0 where
+-- the entries that are open before item x, of which something is so
+pub record StackAt (state : Open) (ps : List Placed) (x : ℕ) (Is : List Entry → Type 0) : Type 0 where
   pub stack : List Entry
   pub falls : IsStack (state.rows + x) stack
-  pub levels : HasLevels q stack
+  pub is : Is stack
   pub from : (e : Entry) → IsIn e stack → IsIn e state.entries ⊎ IsNew state.rows ps x e
   pub stays : (e : Entry) → IsIn e stack → Off state.rows ps x e.row → ⊥
   pub old : (e : Entry) → IsIn e state.entries → Off state.rows ps x e.row ⊎ IsIn e stack
   pub new : (e : Entry) → IsNew state.rows ps x e → Off state.rows ps x e.row ⊎ IsIn e stack
 
-abbrev pub EachStack : Open → List Placed → Type 0
-EachStack state ps = (x : ℕ) (q : Placed) → slice_get ps x ≡ Some q → StackAt state ps x q
+-- the entries before each item, and behind the last
+pub record Stacks (state : Open) (ps : List Placed) (last : List Entry) : Type 0 where
+  pub before : (x : ℕ) (q : Placed) → slice_get ps x ≡ Some q → StackAt state ps x (HasLevels q)
+  pub at_end : StackAt state ps (length ps) (λ stack. stack ≡ last)
 
 -- ---- one row more in front
 off_more : (n x c : ℕ) (p : Placed) (ps : List Placed) → Off (n + 1) ps x c → Off n (p ∷ ps) (suc x) c
@@ -88,11 +90,11 @@ pub record Step (n : ℕ) (es next : List Entry) (p : Placed) : Type 0 where
 none_before : {A : Type 0} (x : ℕ) → x < 0 → A
 none_before x h = absurd (omega arith)
 
-at_once : (state : Open) (p : Placed) (ps : List Placed) → IsStack state.rows state.entries → HasLevels p state.entries → StackAt state (p ∷ ps) 0 p
-at_once state p ps stack levels = record {
+at_once : (state : Open) (ps : List Placed) (Is : List Entry → Type 0) → IsStack state.rows state.entries → Is state.entries → StackAt state ps 0 Is
+at_once state ps Is stack is = record {
   stack = state.entries;
   falls = stack_more state.rows (state.rows + 0) state.entries stack (omega arith);
-  levels = levels;
+  is = is;
   from = λ e among. inl among;
   stays = λ e among off. none_before off.place off.before;
   old = λ e among. inr among;
@@ -104,19 +106,19 @@ off_first n x c p ps f =
     let behind = f.behind in
     record { place = 0; placed = p; there = refl; closed = f.closed; closes = f.closes; around = f.around; behind = omega arith; before = omega arith }
 
-carried_on : (state : Open) (p : Placed) (ps : List Placed) (next : List Entry) (x : ℕ) (q : Placed) (t : StackAt (record { rows = state.rows + 1; entries = next }) ps x q) (e : Entry) → IsIn e next
+carried_on : (state : Open) (p : Placed) (ps : List Placed) (next : List Entry) (x : ℕ) (Is : List Entry → Type 0) (t : StackAt (record { rows = state.rows + 1; entries = next }) ps x Is) (e : Entry) → IsIn e next
     → Off state.rows (p ∷ ps) (suc x) e.row ⊎ IsIn e t.stack
-carried_on state p ps next x q t e before = elim (t.old e before) [
+carried_on state p ps next x Is t e before = elim (t.old e before) [
   | inl off ↦ inl (off_more state.rows x e.row p ps off)
   | inr among ↦ inr among
 ]
 
-carried : (state : Open) (p : Placed) (ps : List Placed) (next : List Entry) (x : ℕ) (q : Placed) → Step state.rows state.entries next p
-    → StackAt (record { rows = state.rows + 1; entries = next }) ps x q → StackAt state (p ∷ ps) (suc x) q
-carried state p ps next x q step t = record {
+carried : (state : Open) (p : Placed) (ps : List Placed) (next : List Entry) (x : ℕ) (Is : List Entry → Type 0) → Step state.rows state.entries next p
+    → StackAt (record { rows = state.rows + 1; entries = next }) ps x Is → StackAt state (p ∷ ps) (suc x) Is
+carried state p ps next x Is step t = record {
   stack = t.stack;
   falls = stack_more (state.rows + 1 + x) (state.rows + suc x) t.stack t.falls (omega arith);
-  levels = t.levels;
+  is = t.is;
   from = λ e among. elim (t.from e among) [
     | inl before ↦ elim (step.from e before) [
       | inl old ↦ inl old
@@ -133,10 +135,10 @@ carried state p ps next x q step t = record {
   ];
   old = λ e among. elim (step.old e among) [
     | inl first ↦ inl (off_first state.rows x e.row p ps first)
-    | inr before ↦ carried_on state p ps next x q t e before
+    | inr before ↦ carried_on state p ps next x Is t e before
   ];
   new = λ e new. elim (new_less state.rows x p ps e new) [
-    | inl first ↦ carried_on state p ps next x q t e (step.new e first.0 first.1)
+    | inl first ↦ carried_on state p ps next x Is t e (step.new e first.0 first.1)
     | inr later ↦ elim (t.new e later) [
       | inl off ↦ inl (off_more state.rows x e.row p ps off)
       | inr among ↦ inr among
@@ -144,9 +146,17 @@ carried state p ps next x q step t = record {
   ];
 }
 
-pub behind_row : (state : Open) (p : Placed) (ps : List Placed) (next : List Entry) → IsStack state.rows state.entries → HasLevels p state.entries → Step state.rows state.entries next p
-    → EachStack (record { rows = state.rows + 1; entries = next }) ps → EachStack state (p ∷ ps)
-behind_row state p ps next stack levels step later zero q there =
+before_row : (state : Open) (p : Placed) (ps : List Placed) (next last : List Entry) → IsStack state.rows state.entries → HasLevels p state.entries → Step state.rows state.entries next p
+    → Stacks (record { rows = state.rows + 1; entries = next }) ps last → (x : ℕ) (q : Placed) → slice_get (p ∷ ps) x ≡ Some q → StackAt state (p ∷ ps) x (HasLevels q)
+before_row state p ps next last stack levels step later zero q there =
     let same : p ≡ q = cc in
-    rw (← same) (at_once state p ps stack levels)
-behind_row state p ps next stack levels step later (suc x) q there = carried state p ps next x q step (later x q there)
+    at_once state (p ∷ ps) (HasLevels q) stack (subst (λ z. HasLevels z state.entries) same levels)
+before_row state p ps next last stack levels step later (suc x) q there = carried state p ps next x (HasLevels q) step (later.before x q there)
+
+pub behind_row : (state : Open) (p : Placed) (ps : List Placed) (next last : List Entry) → IsStack state.rows state.entries → HasLevels p state.entries → Step state.rows state.entries next p
+    → Stacks (record { rows = state.rows + 1; entries = next }) ps last → Stacks state (p ∷ ps) last
+behind_row state p ps next last stack levels step later =
+    record { before = before_row state p ps next last stack levels step later; at_end = carried state p ps next (length ps) (λ entries. entries ≡ last) step later.at_end }
+
+pub no_rows : (state : Open) → IsStack state.rows state.entries → Stacks state [] state.entries
+no_rows state stack = record { before = λ x q there. absurd (cc); at_end = at_once state [] (λ entries. entries ≡ state.entries) stack refl }

@@ -1,14 +1,13 @@
 -- The open entries before each row of a text.
 use Rattle.std.proofs.Common.{◌≡◌, ℕ, ◌+◌, ◌<◌, ◌⊎◌, nat_le, List, [], ◌∷◌, ◌++◌, length, Some, None, refl, sym, ap, ◌∙◌, arith, inl, inr}
-use Rattle.std.specs.Prelude.{slice_get}
 use Rattle.std.proofs.lemmas.Bool.{cases_Bool}
 use Rattle.text_pos.specs.declared.kinds.Kinds.{Kinds}
 use Rattle.pairing_defs.specs.declared.Role.{Role}
 use Rattle.pairing_defs.specs.declared.Role.TheVariants.{Opener, Closer}
 use Rattle.pairing_defs.specs.declared.Mark.{Mark}
-use Rattle.pairing_defs.specs.Pairing.{Entry, Open, Placed, of_kind, from_last, closer_row, left_open, rows_by, open_by, placed_from, nothing_open}
+use Rattle.pairing_defs.specs.Pairing.{Entry, Open, Placed, of_kind, from_last, closer_row, left_open, rows_by, open_by, placed_from, open_after, nothing_open}
 use Rattle.bracket_lex.proofs.OpenEntries.{IsStack, IsEntry, stack_more, entry_below, Last, last_of, split_at_last}
-use Rattle.bracket_lex.proofs.OpenStacks.{IsIn, HasLevels, StackAt, EachStack, ClosedFirst, Step, behind_row}
+use Rattle.bracket_lex.proofs.OpenStacks.{IsIn, HasLevels, Stacks, ClosedFirst, Step, behind_row, no_rows}
 
 -- ---- one role each
 opener_kind : (p : Placed) (kind other : ℕ) → p.mark.role ≡ Opener kind → p.mark.role ≡ Opener other → other ≡ kind
@@ -83,40 +82,41 @@ closer_step n kinds es entry below p stack found role closes =
 
 -- ---- each mark
 closer_by : (limit : ℕ) (state : Open) (m : Mark) (ms : List Mark) (kinds : Kinds) (found : List Entry) → m.role ≡ Closer kinds → from_last kinds state.entries ≡ found → IsStack state.rows state.entries
-    → ((s : Open) → IsStack s.rows s.entries → EachStack s (placed_from limit s ms))
-    → EachStack state (closer_row state m found ∷ placed_from limit (record { rows = state.rows + 1; entries = left_open state.entries found }) ms)
+    → ((s : Open) → IsStack s.rows s.entries → Stacks s (placed_from limit s ms) (open_after limit s ms).entries)
+    → Stacks state (closer_row state m found ∷ placed_from limit (record { rows = state.rows + 1; entries = left_open state.entries found }) ms)
+    (open_after limit (record { rows = state.rows + 1; entries = left_open state.entries found }) ms).entries
 closer_by limit state m ms kinds [] role is stack later =
-    behind_row state (closer_row state m []) (placed_from limit (record { rows = state.rows + 1; entries = state.entries }) ms) state.entries stack
+    behind_row state (closer_row state m []) (placed_from limit (record { rows = state.rows + 1; entries = state.entries }) ms) state.entries (open_after limit (record { rows = state.rows + 1; entries = state.entries }) ms).entries stack
     (lone_levels (closer_row state m []) kinds state.entries role refl refl)
     (lone_step state.rows kinds state.entries (closer_row state m []) role refl)
     (later (record { rows = state.rows + 1; entries = state.entries }) (stack_more state.rows (state.rows + 1) state.entries stack (omega arith)))
 closer_by limit state m ms kinds (entry ∷ below) role is stack later =
     let l : Last kinds state.rows state.entries entry below = last_of kinds state.rows state.entries entry below stack is in
     let under : entry.row < state.rows = entry_below state.rows state.entries entry below stack l.is_entry in
-    behind_row state (closer_row state m (entry ∷ below)) (placed_from limit (record { rows = state.rows + 1; entries = below }) ms) below stack
+    behind_row state (closer_row state m (entry ∷ below)) (placed_from limit (record { rows = state.rows + 1; entries = below }) ms) below (open_after limit (record { rows = state.rows + 1; entries = below }) ms).entries stack
     (closer_levels (closer_row state m (entry ∷ below)) kinds entry.row state.entries role refl)
     (closer_step state.rows kinds state.entries entry below (closer_row state m (entry ∷ below)) stack is role refl)
     (later (record { rows = state.rows + 1; entries = below }) (stack_more entry.row (state.rows + 1) below l.stack (omega arith)))
 
 mark_by : (limit : ℕ) (state : Open) (m : Mark) (ms : List Mark) (role : Role) → m.role ≡ role → IsStack state.rows state.entries
-    → ((s : Open) → IsStack s.rows s.entries → EachStack s (placed_from limit s ms))
-    → EachStack state (rows_by limit state m role ++ placed_from limit (open_by limit state role) ms)
+    → ((s : Open) → IsStack s.rows s.entries → Stacks s (placed_from limit s ms) (open_after limit s ms).entries)
+    → Stacks state (rows_by limit state m role ++ placed_from limit (open_by limit state role) ms) (open_after limit (open_by limit state role) ms).entries
 mark_by limit state m ms (Opener kind) is stack later = elim (cases_Bool (nat_le limit (length state.entries))) [
   | inl full ↦ rw full (later state stack)
   | inr room ↦
       let p : Placed = record { mark = m; level = length state.entries; own = of_kind kind state.entries; closes = None } in
       let next : List Entry = record { row = state.rows; kind = kind } ∷ state.entries in
       rw room
-      (behind_row state p (placed_from limit (record { rows = state.rows + 1; entries = next }) ms) next stack
+      (behind_row state p (placed_from limit (record { rows = state.rows + 1; entries = next }) ms) next (open_after limit (record { rows = state.rows + 1; entries = next }) ms).entries stack
       (opener_levels p kind state.entries is refl refl)
       (opener_step state.rows kind state.entries p is refl)
       (later (record { rows = state.rows + 1; entries = next }) (omega arith, stack)))
 ]
 mark_by limit state m ms (Closer kinds) is stack later = closer_by limit state m ms kinds (from_last kinds state.entries) is refl stack later
 
-each_stack : (limit : ℕ) (ms : List Mark) (state : Open) → IsStack state.rows state.entries → EachStack state (placed_from limit state ms)
-each_stack limit [] state stack = λ x q there. absurd (cc)
-each_stack limit (m ∷ ms) state stack = mark_by limit state m ms m.role refl stack (λ s s_stack. each_stack limit ms s s_stack)
+stacks : (limit : ℕ) (ms : List Mark) (state : Open) → IsStack state.rows state.entries → Stacks state (placed_from limit state ms) (open_after limit state ms).entries
+stacks limit [] state stack = no_rows state stack
+stacks limit (m ∷ ms) state stack = mark_by limit state m ms m.role refl stack (λ s s_stack. stacks limit ms s s_stack)
 
-pub stack_before : (limit : ℕ) (ms : List Mark) (i : ℕ) (q : Placed) → slice_get (placed_from limit nothing_open ms) i ≡ Some q → StackAt nothing_open (placed_from limit nothing_open ms) i q
-stack_before limit ms i q there = each_stack limit ms nothing_open tt i q there
+pub stacks_of : (limit : ℕ) (ms : List Mark) → Stacks nothing_open (placed_from limit nothing_open ms) (open_after limit nothing_open ms).entries
+stacks_of limit ms = stacks limit ms nothing_open tt

@@ -9,7 +9,7 @@ use Rattle.pairing_defs.specs.Pairing.{Open, rows_by, open_by, placed_from, open
 use Rattle.bracket_lex.specs.MarkedLine.{MarkedLine}
 use Rattle.bracket_lex.specs.Pairing.{Progress, open_in}
 
-placed_from-append : (limit : ℕ) (state : Open) (xs ys : List Mark)
+pub placed_from-append : (limit : ℕ) (state : Open) (xs ys : List Mark)
     → placed_from limit state (xs ++ ys) ≡ placed_from limit state xs ++ placed_from limit (open_after limit state xs) ys
 placed_from-append limit state [] ys = refl
 placed_from-append limit state (x ∷ xs) ys =

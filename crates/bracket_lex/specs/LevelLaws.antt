@@ -1,12 +1,13 @@
 -- What levels count, whatever the marks of a text, its end and the limit on nesting: the openers that are open there.
 -- That it is so is this project's own.
-use Rattle.std.specs.Prelude.{◌≡◌, ℕ, ◌<◌, ◌⊎◌, List, [], ◌∷◌, length, Some, None, slice_get}
+use Rattle.std.specs.Prelude.{◌≡◌, ℕ, ◌<◌, ◌≤◌, ◌⊎◌, List, [], ◌∷◌, ◌++◌, length, Some, None, slice_get}
 use Rattle.text_pos.specs.declared.length.Pos.{Pos}
 use Rattle.text_pos.specs.declared.kinds.Kinds.{Kinds}
 use Rattle.pairing_defs.specs.declared.Role.TheVariants.{Opener, Closer}
 use Rattle.pairing_defs.specs.declared.Mark.{Mark}
 use Rattle.pairing_defs.specs.declared.Row.{Row}
 use Rattle.pairing_defs.specs.Pairing.{paired}
+use Rattle.bracket_lex.specs.RowLaws.{marks_of_rows}
 use Rattle.bracket_lex.specs.PairLaws.{IsClosedOff}
 
 -- the first number is below n, and each below the one before it
@@ -47,3 +48,21 @@ abbrev pub LoneClosersCountTheOpen : Type 0
 LoneClosersCountTheOpen = (limit : ℕ) (end : Pos) (marks : List Mark) (i : ℕ) (kinds : Kinds) (row : Row) → slice_get (paired limit end marks) i ≡ Some row
     → row.mark.role ≡ Closer kinds → row.partner ≡ None
     → Counts i (IsOpen (paired limit end marks) i) row.level × (row.own ≡ 0)
+
+-- the marks that have rows
+abbrev pub kept : ℕ → Pos → List Mark → List Mark
+kept limit end marks = marks_of_rows (paired limit end marks)
+
+-- so many openers are open behind the last row
+abbrev pub LeavesOpen : List Row → ℕ → Type 0
+LeavesOpen rows count = Counts (length rows) (IsOpen rows (length rows)) count
+
+-- one more mark behind others has a row behind theirs, if it is a closer
+abbrev pub OneMoreCloserHasARow : Type 0
+OneMoreCloserHasARow = (limit : ℕ) (end : Pos) (marks : List Mark) (m : Mark) (kinds : Kinds) → m.role ≡ Closer kinds → kept limit end (marks ++ m ∷ []) ≡ kept limit end marks ++ m ∷ []
+
+-- and if it is an opener, it has a row exactly where fewer openers are open than the limit
+abbrev pub OneMoreOpenerHasARowBelowTheLimit : Type 0
+OneMoreOpenerHasARowBelowTheLimit = (limit : ℕ) (end : Pos) (marks : List Mark) (m : Mark) (kind : ℕ) → m.role ≡ Opener kind
+    → (open_rows : ℕ) × LeavesOpen (paired limit end marks) open_rows
+    × (((open_rows < limit) × (kept limit end (marks ++ m ∷ []) ≡ kept limit end marks ++ m ∷ [])) ⊎ ((limit ≤ open_rows) × (kept limit end (marks ++ m ∷ []) ≡ kept limit end marks)))

@@ -1,5 +1,5 @@
 ghost use Rattle.bracket_lex.specs.RowLaws.{RowsAreMarksInOrder, ClosersHaveRows, MarksWithinTheLimitHaveRows};
-ghost use Rattle.bracket_lex.specs.LevelLaws.{OpenersCountTheOpen, LoneClosersCountTheOpen};
+ghost use Rattle.bracket_lex.specs.LevelLaws.{OpenersCountTheOpen, LoneClosersCountTheOpen, OneMoreCloserHasARow, OneMoreOpenerHasARowBelowTheLimit};
 ghost use Rattle.bracket_lex.specs.InsideLaws.{InsidesEndAtTheFirstCloser, OpenInsidesEndWithTheText, ClosersHaveNoInside};
 ghost use Rattle.bracket_lex.specs.PairLaws.{PartnersAreMutual, OpenersComeFirst, PartnersAreAlike, ColoursGoByLevel, TheUnpairedHaveColourSix, PairsNeverCross, OpenersAreBelowTheLimit, PartnersAreBelowTheLimit, ClosersTakeTheLastOpener};
 
@@ -42,4 +42,10 @@ pub fn insides_end_where_closed_off()
     ensures closed_off { InsidesEndAtTheFirstCloser }
     ensures left_open { OpenInsidesEndWithTheText }
     ensures closers { ClosersHaveNoInside }
+{}
+
+/// Only an opener has no row, and only where as many openers are open as the limit says.
+pub fn openers_at_the_limit_have_no_rows()
+    ensures closers { OneMoreCloserHasARow }
+    ensures openers { OneMoreOpenerHasARowBelowTheLimit }
 {}
