@@ -4,6 +4,7 @@ pub mod Flat
 pub mod Fronts
 pub mod Lists
 pub mod NodeSteps
+pub mod Parts
 pub mod PileLemmas
 pub mod ReturnSteps
 pub mod Steps
