@@ -1,3 +1,4 @@
+pub mod Budgets
 pub mod Carries
 pub mod Ends
 pub mod Flat
