@@ -1,7 +1,7 @@
-use Rattle.std.proofs.Common.{◌≡◌, ◌≤◌, ℕ, refl, subst}
+use Rattle.std.proofs.Common.{◌≡◌, ℕ, refl, subst}
 use Rattle.std.specs.Rc.{rc_value}
 use Rattle.pattern_defs.specs.Patterns.{Tree, nodes_of}
-use Rattle.pattern_defs.specs.Attempt.{Miss, Ran, attempt as attempted, outcome_of, hit_after}
+use Rattle.pattern_defs.specs.Attempt.{Miss, attempt as attempted}
 use Rattle.onig_scan.specs.Fronts.{IsFront}
 use Rattle.onig_scan.proofs.FrontLaws.{misses-attempt}
 use Rattle.onig_scan.proofs.entry.Entry.attempt.Goals as goal
