@@ -5,7 +5,6 @@ use Rattle.char_sets.specs.Ranges.{in_set}
 use Rattle.pattern_defs.specs.declared.nodes.Arm.{Arm}
 use Rattle.pattern_defs.specs.declared.nodes.PatNode.TheVariants.{One, At, Choice, Group, Repeat, Ahead, Behind, Atomic, Back}
 use Rattle.pattern_defs.specs.declared.outcomes.Flags.{Flags}
-use Rattle.pattern_defs.specs.declared.outcomes.Outcome.{Outcome}
 use Rattle.pattern_defs.specs.declared.outcomes.Outcome.TheVariants as outcomes
 use Rattle.pattern_defs.specs.declared.outcomes.Place.{Place}
 use Rattle.pattern_defs.specs.Patterns.{Tree}

@@ -1,5 +1,6 @@
--- What groups take are parts of the text: what is to match behind the start of a group stands at its start or later.
-use Rattle.std.proofs.Common.{◌≡◌, ℕ, zero, suc, ◌+◌, ◌-◌, ◌<◌, ◌≤◌, List, [], ◌∷◌, ◌++◌, length, map, replicate, refl, subst, arith}
+-- What groups take are parts of the text: an attempt ends where it begins or behind that, so a group that is still to
+-- end began at the present place or before it.
+use Rattle.std.proofs.Common.{◌≡◌, ℕ, zero, suc, ◌+◌, ◌-◌, ◌≤◌, List, [], ◌∷◌, ◌++◌, length, map, replicate, refl, arith}
 use Rattle.std.specs.Prelude.{Bool, true, false, ◌&&◌, ◌==◌, Option, Some, None, IfSome, IsSomeAnd, nat_lt, nat_le, slice_get, slice_set}
 use Rattle.std.proofs.lemmas.List.{length-replicate, length-set}
 use Rattle.char_sets.specs.Ranges.{in_set}
@@ -8,7 +9,6 @@ use Rattle.pattern_defs.specs.declared.nodes.Arm.{Arm}
 use Rattle.pattern_defs.specs.declared.nodes.PatNode.{PatNode}
 use Rattle.pattern_defs.specs.declared.nodes.PatNode.TheVariants.{One, At, Choice, Group, Repeat, Ahead, Behind, Atomic, Back}
 use Rattle.pattern_defs.specs.declared.outcomes.Flags.{Flags}
-use Rattle.pattern_defs.specs.declared.outcomes.Outcome.{Outcome}
 use Rattle.pattern_defs.specs.declared.outcomes.Outcome.TheVariants as outcomes
 use Rattle.pattern_defs.specs.declared.outcomes.Place.{Place}
 use Rattle.pattern_defs.specs.Patterns.{NodeLists, Tree, nodes_of}
@@ -111,7 +111,7 @@ AllOpen-repeat at false true greatest greedy more rest m r = (m, tt)
 AllOpen-repeat at false false true greedy more rest m r = (r, tt)
 AllOpen-repeat at false false false greedy more rest m r = AllOpen-order at greedy more rest m r
 
--- one definition after the other
+-- how an attempt ends, by what is done in it
 
 EndsWell-later : (chars groups a b : ℕ) (ran : Ran) → a ≤ b → EndsWell chars groups b ran → EndsWell chars groups a ran
 EndsWell-later chars groups a b (Hit at captures left) h w = (omega (arith, w.0), w.1, w.2)

@@ -8,8 +8,11 @@ ghost use Rattle.pattern_defs.specs.Attempt.{Captures, attempt, outcome_of, hit_
 pub fn a_greater_budget_changes_no_answer()
     ensures outcome { (tree : Tree) (text : List ℕ) (at : ℕ) (flags : Flags) (budget more : ℕ) →
         outcome_of (attempt tree text at flags budget) ≢ outcomes.Spent →
-        outcome_of (attempt tree text at flags (budget + more)) ≡ outcome_of (attempt tree text at flags budget) }
-    ensures captures { (tree : Tree) (text : List ℕ) (at : ℕ) (flags : Flags) (budget more : ℕ) (last : Captures) →
+        outcome_of (attempt tree text at flags (budget + more))
+        ≡ outcome_of (attempt tree text at flags budget) }
+    ensures captures { (tree : Tree) (text : List ℕ) (at : ℕ) (flags : Flags) (budget more : ℕ)
+        (last : Captures) →
         outcome_of (attempt tree text at flags budget) ≢ outcomes.Spent →
-        hit_after (attempt tree text at flags (budget + more)) last ≡ hit_after (attempt tree text at flags budget) last }
+        hit_after (attempt tree text at flags (budget + more)) last
+        ≡ hit_after (attempt tree text at flags budget) last }
 {}
