@@ -8,7 +8,7 @@ use Rattle.pattern_defs.specs.declared.outcomes.Flags.{Flags}
 use Rattle.pattern_defs.specs.declared.outcomes.Outcome.TheVariants as outcomes
 use Rattle.pattern_defs.specs.declared.outcomes.Place.{Place}
 use Rattle.pattern_defs.specs.Patterns.{Tree}
-use Rattle.pattern_defs.specs.Attempt.{Subject, Captures, Todo, Node, Close, Again, Ran, Hit, Miss, Spent, Going, before, or_else, where_holds, tries, is_char, holds_at, looked, arms_run, kept_whole, capture_of, stands_again, backs, act, go_on, with_whole, attempt, outcome_of, hit_after}
+use Rattle.pattern_defs.specs.Attempt.{Subject, Captures, Todo, Node, Close, Again, Ran, Hit, Miss, Spent, Going, before, or_else, where_holds, tries, is_char, holds_at, looked, arms_run, kept_whole, capture_of, stands_again, backs, act, go_on, with_whole, attempt, outcome_of, last_hit_captures}
 use Rattle.onig_match.proofs.VisitCounts.{left_of, Lowers, where_holds-lowers, arms_run-lowers, go_on-lowers}
 
 -- the other ends the same with so many more left, unless the one is spent
@@ -148,7 +148,7 @@ same_outcome more (Miss left) other e told = rw e refl
 same_outcome more Spent other e told = absurd (told refl)
 
 pub same_captures : (more : ℕ) (ran other : Ran) (last : Captures) → IsSameWith more ran other →
-    outcome_of ran ≢ outcomes.Spent → hit_after other last ≡ hit_after ran last
+    outcome_of ran ≢ outcomes.Spent → last_hit_captures other last ≡ last_hit_captures ran last
 same_captures more (Hit at captures left) other last e told = rw e refl
 same_captures more (Miss left) other last e told = rw e refl
 same_captures more Spent other last e told = absurd (told refl)

@@ -7,7 +7,7 @@ use Rattle.pattern_defs.specs.declared.outcomes.Flags.{Flags}
 use Rattle.pattern_defs.specs.declared.outcomes.Outcome.TheVariants as outcomes
 use Rattle.pattern_defs.specs.declared.outcomes.Place.{Place}
 use Rattle.pattern_defs.specs.Patterns.{Tree}
-use Rattle.pattern_defs.specs.Attempt.{Subject, Captures, Ran, Hit, Miss, Spent, before, attempt, with_whole, outcome_of, hit_after}
+use Rattle.pattern_defs.specs.Attempt.{Subject, Captures, Ran, Hit, Miss, Spent, before, attempt, with_whole, outcome_of, last_hit_captures}
 use Rattle.onig_match.specs.declared.cells.Rest.{Rest}
 use Rattle.onig_match.specs.declared.cells.Cell.{Cell}
 use Rattle.onig_match.specs.declared.entries.Change.{Change}
@@ -123,8 +123,8 @@ found_outcome (Miss left) at end e = cc
 found_outcome Spent at end e = cc
 
 pub found_hit : (ran : Ran) (at end : ℕ) (captures last : Captures) → ends.Found end ≡ end_of ran →
-    captures ≡ hit_after ran captures →
-    slice_set captures 0 (Some (record { from = at; to = end })) ≡ hit_after (with_whole at ran) last
+    captures ≡ last_hit_captures ran captures →
+    slice_set captures 0 (Some (record { from = at; to = end })) ≡ last_hit_captures (with_whole at ran) last
 found_hit (Hit place seen left) at end captures last e is = let same : end ≡ place = cc in rw (same, is) refl
 found_hit (Miss left) at end captures last e is = cc
 found_hit Spent at end captures last e is = cc
@@ -135,7 +135,7 @@ failed_outcome (Miss left) at e = refl
 failed_outcome Spent at e = cc
 
 pub failed_hit : (ran : Ran) (at : ℕ) (last : Captures) → ends.Failed ≡ end_of ran →
-    last ≡ hit_after (with_whole at ran) last
+    last ≡ last_hit_captures (with_whole at ran) last
 failed_hit (Hit place captures left) at last e = cc
 failed_hit (Miss left) at last e = refl
 failed_hit Spent at last e = refl
@@ -146,7 +146,7 @@ spent_outcome (Miss left) at e = cc
 spent_outcome Spent at e = refl
 
 pub spent_hit : (ran : Ran) (at : ℕ) (last : Captures) → ends.Spent ≡ end_of ran →
-    last ≡ hit_after (with_whole at ran) last
+    last ≡ last_hit_captures (with_whole at ran) last
 spent_hit (Hit place captures left) at last e = cc
 spent_hit (Miss left) at last e = refl
 spent_hit Spent at last e = refl

@@ -12,7 +12,7 @@ use Rattle.pattern_defs.specs.declared.outcomes.Flags.{Flags}
 use Rattle.pattern_defs.specs.declared.outcomes.Outcome.TheVariants as outcomes
 use Rattle.pattern_defs.specs.declared.outcomes.Place.{Place}
 use Rattle.pattern_defs.specs.Patterns.{NodeLists, Tree, nodes_of}
-use Rattle.pattern_defs.specs.Attempt.{Subject, Captures, Todo, Node, Close, Again, Ran, Hit, Miss, Spent, Going, before, or_else, where_holds, tries, is_char, holds_at, is_greatest, in_order, repeat_ways, looked, arms_run, kept_whole, capture_of, stands_again, backs, act, look, go_on, with_whole, attempt, outcome_of, hit_after}
+use Rattle.pattern_defs.specs.Attempt.{Subject, Captures, Todo, Node, Close, Again, Ran, Hit, Miss, Spent, Going, before, or_else, where_holds, tries, is_char, holds_at, is_greatest, in_order, repeat_ways, looked, arms_run, kept_whole, capture_of, stands_again, backs, act, look, go_on, with_whole, attempt, outcome_of, last_hit_captures}
 use Rattle.onig_match.specs.Works.{IsPart}
 use Rattle.onig_match.proofs.NodeSteps.{is_char_within, stands_within}
 
@@ -273,7 +273,7 @@ begun-keeps tree text at flags budget there =
     (AreOpen-before at tree.lists tree.top [] tt) none
 
 hit_parts : (chars groups from : ℕ) (ran : Ran) (last : Captures) (n : ℕ) → EndsWell chars groups from ran →
-    outcomes.Hit ≡ outcome_of ran → IfSome (capture_of (hit_after ran last) n) (IsPart chars)
+    outcomes.Hit ≡ outcome_of ran → IfSome (capture_of (last_hit_captures ran last) n) (IsPart chars)
 hit_parts chars groups from (Hit at captures left) last n w e = AreParts-capture chars captures n w.2.parts
 hit_parts chars groups from (Miss left) last n w e = absurd (cc)
 hit_parts chars groups from Spent last n w e = absurd (cc)
@@ -281,14 +281,14 @@ hit_parts chars groups from Spent last n w e = absurd (cc)
 -- what each group took in a hit is a part of the text
 pub captured_parts : (tree : Tree) (text : List ℕ) (at : ℕ) (flags : Flags) (budget : ℕ) (last : Captures) → at ≤ length text →
     outcomes.Hit ≡ outcome_of (attempt tree text at flags budget) → (n : ℕ) →
-    IfSome (capture_of (hit_after (attempt tree text at flags budget) last) n) (IsPart (length text))
+    IfSome (capture_of (last_hit_captures (attempt tree text at flags budget) last) n) (IsPart (length text))
 captured_parts tree text at flags budget last there e n =
     hit_parts (length text) (tree.groups + 1) at (attempt tree text at flags budget) last n
     (whole-keeps (length text) (tree.groups + 1) at (begun tree text at flags budget) (begun-keeps tree text at flags budget there)) e
 
 hit_begins : (chars groups at : ℕ) (ran : Ran) (last : Captures) → EndsWell chars (groups + 1) at ran →
     outcomes.Hit ≡ outcome_of (with_whole at ran) →
-    IsSomeAnd (capture_of (hit_after (with_whole at ran) last) 0) (λ place. place.from ≡ at)
+    IsSomeAnd (capture_of (last_hit_captures (with_whole at ran) last) 0) (λ place. place.from ≡ at)
 hit_begins chars groups at (Hit end [] left) last w e = let none : 0 ≡ groups + 1 = w.2.count in absurd (omega arith)
 hit_begins chars groups at (Hit end (x ∷ xs) left) last w e = refl
 hit_begins chars groups at (Miss left) last w e = absurd (cc)
@@ -297,6 +297,6 @@ hit_begins chars groups at Spent last w e = absurd (cc)
 -- the whole match of a hit begins at the place
 pub captured_whole : (tree : Tree) (text : List ℕ) (at : ℕ) (flags : Flags) (budget : ℕ) (last : Captures) → at ≤ length text →
     outcomes.Hit ≡ outcome_of (attempt tree text at flags budget) →
-    IsSomeAnd (capture_of (hit_after (attempt tree text at flags budget) last) 0) (λ place. place.from ≡ at)
+    IsSomeAnd (capture_of (last_hit_captures (attempt tree text at flags budget) last) 0) (λ place. place.from ≡ at)
 captured_whole tree text at flags budget last there e =
     hit_begins (length text) tree.groups at (begun tree text at flags budget) last (begun-keeps tree text at flags budget there) e

@@ -1,7 +1,7 @@
 ghost use Rattle.std.specs.Prelude.{◌≡◌, ◌≢◌, ℕ, ◌+◌, ◌-◌, ◌*◌, ◌<◌, ◌≤◌, ◌^◌, [], length, replicate, slice_get, None, IfOk, IfSome, IsSomeAnd, IsTrue, option_and_then};
 ghost use Rattle.pattern_defs.specs.declared.outcomes.Outcome.TheVariants as outcomes;
 ghost use Rattle.pattern_defs.specs.Patterns.{is_flat, size_of, AreLists};
-ghost use Rattle.pattern_defs.specs.Attempt.{attempt as attempt_of, before, capture_of, outcome_of, hit_after};
+ghost use Rattle.pattern_defs.specs.Attempt.{attempt as attempt_of, before, capture_of, outcome_of, last_hit_captures};
 ghost use Rattle.onig_match.specs.Goes.{goes};
 ghost use Rattle.onig_match.specs.Machine.{subject, end_of};
 ghost use Rattle.onig_match.specs.Sound.{IsSound, IsHere, HasRoom, SameRooms};
@@ -81,7 +81,7 @@ impl Area {
         requires empty { self.old.entries.items ≡ [] }
         ensures end { result ≡ end_of (goes (subject on.now)
             (before on.now.pattern.now.lists on.now.pattern.now.top []) at self.old.captures.items budget) }
-        ensures captures { self.new.captures.items ≡ hit_after (goes (subject on.now)
+        ensures captures { self.new.captures.items ≡ last_hit_captures (goes (subject on.now)
             (before on.now.pattern.now.lists on.now.pattern.now.top []) at self.old.captures.items budget)
             self.new.captures.items }
         ensures groups { length self.new.captures.items ≡ on.now.pattern.now.groups + 1 }
@@ -168,7 +168,7 @@ pub fn attempt(pattern: &Pattern, work: &mut Work, text: &[char], at: u32, flags
     requires groups { pattern.now.groups ≤ work.old.room }
     ensures outcome { result ≡ outcome_of (attempt_of pattern.now text.now at flags work.old.budget) }
     ensures work { work.new ≡ record work.old {
-      hit = hit_after (attempt_of pattern.now text.now at flags work.old.budget) work.old.hit;
+      hit = last_hit_captures (attempt_of pattern.now text.now at flags work.old.budget) work.old.hit;
     } }
     ensures groups { result ≡ Outcome.Hit → length work.new.hit ≡ pattern.now.groups + 1 }
     // what each group took is a part of the text, and the whole match begins at the place

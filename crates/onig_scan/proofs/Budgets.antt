@@ -1,17 +1,17 @@
 -- A search that isn't spent answers the same with more visits, since each of its attempts does.
-use Rattle.std.proofs.Common.{◌≡◌, ◌≢◌, ℕ, ◌+◌, true, false, List, [], ◌∷◌, Option, Some, None, refl, sym, ap, ◌∙◌, subst}
+use Rattle.std.proofs.Common.{◌≡◌, ◌≢◌, ℕ, ◌+◌, true, false, List, [], ◌∷◌, Option, Some, None, refl, ap, ◌∙◌, subst}
 use Rattle.pattern_defs.specs.declared.outcomes.Flags.{Flags}
 use Rattle.pattern_defs.specs.declared.outcomes.Found.TheVariants as found
 use Rattle.pattern_defs.specs.declared.outcomes.Outcome.TheVariants as outcomes
-use Rattle.pattern_defs.specs.Attempt.{Ran, Hit, Miss, Spent, Captures, outcome_of, hit_after}
-use Rattle.pattern_defs.specs.FirstMatch.{Pair, tried, is_no_miss, first_of, answer_by, found_at, captures_by, captures_at}
+use Rattle.pattern_defs.specs.Attempt.{Ran, Hit, Miss, Spent, Captures, outcome_of, last_hit_captures}
+use Rattle.pattern_defs.specs.FirstMatch.{Pair, tried, is_no_miss, first_of, answer_by, found_at, captures_at}
 
 -- each attempt that isn't spent answers the same, with the same captures, with so many visits more
 pub record AreSame (text : List ℕ) (flags : Flags) (budget more : ℕ) : Type 0 where
   pub outcome : (pair : Pair) → outcome_of (tried text flags budget pair) ≢ outcomes.Spent →
       outcome_of (tried text flags (budget + more) pair) ≡ outcome_of (tried text flags budget pair)
   pub captures : (pair : Pair) (last : Captures) → outcome_of (tried text flags budget pair) ≢ outcomes.Spent →
-      hit_after (tried text flags (budget + more) pair) last ≡ hit_after (tried text flags budget pair) last
+      last_hit_captures (tried text flags (budget + more) pair) last ≡ last_hit_captures (tried text flags budget pair) last
 
 -- the pair that decides, where one does, isn't spent
 abbrev pub IsTold : List ℕ → Flags → ℕ → Option Pair → Type 0
@@ -38,11 +38,6 @@ same_answers p (Miss left) Spent e = cc
 same_answers p Spent (Hit at' captures' left') e = cc
 same_answers p Spent (Miss left') e = cc
 same_answers p Spent Spent e = refl
-
-captures_by-hit : (r : Ran) (last : Captures) → captures_by r last ≡ hit_after r last
-captures_by-hit (Hit at captures left) last = refl
-captures_by-hit (Miss left) last = refl
-captures_by-hit Spent last = refl
 
 -- the same pair decides
 pub first_of-same : (text : List ℕ) (flags : Flags) (budget more : ℕ) (all : List Pair) → AreSame text flags budget more →
@@ -92,6 +87,4 @@ pub captures_at-same : (text : List ℕ) (flags : Flags) (budget more : ℕ) (o 
     captures_at text flags (budget + more) o last ≡ captures_at text flags budget o last
 captures_at-same text flags budget more None last same told = refl
 captures_at-same text flags budget more (Some p) last same told =
-    captures_by-hit (tried text flags (budget + more) p) last
-    ∙ same.captures p last (not_spent p (tried text flags budget p) told)
-    ∙ sym (captures_by-hit (tried text flags budget p) last)
+    same.captures p last (not_spent p (tried text flags budget p) told)

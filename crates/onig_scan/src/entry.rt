@@ -1,6 +1,6 @@
 ghost use Rattle.std.specs.Prelude.{◌≡◌, ℕ, ◌+◌, ◌<◌, ◌≤◌, ◌^◌, length, IfOk, IfSome, IsSomeAnd};
 ghost use Rattle.std.specs.Rc.{rc_value};
-ghost use Rattle.pattern_defs.specs.Attempt.{capture_of, outcome_of, hit_after, attempt as attempted};
+ghost use Rattle.pattern_defs.specs.Attempt.{capture_of, outcome_of, last_hit_captures, attempt as attempted};
 ghost use Rattle.onig_match.specs.Works.{IsPart};
 
 use crate::front::{Front, MOST_DEEP, front_of};
@@ -53,7 +53,7 @@ impl Entry {
         requires inside { at ≤ length text.now }
         requires room { self.now.groups ≤ work.old.room }
         ensures outcome { result ≡ outcome_of (attempted self.now text.now at flags work.old.budget) }
-        ensures work { work.new ≡ record work.old { hit = hit_after (attempted self.now text.now at flags work.old.budget) work.old.hit } }
+        ensures work { work.new ≡ record work.old { hit = last_hit_captures (attempted self.now text.now at flags work.old.budget) work.old.hit } }
         ensures groups { result ≡ Outcome.Hit → length work.new.hit ≡ self.now.groups + 1 }
         ensures captures { result ≡ Outcome.Hit → (n : ℕ) →
             IfSome (capture_of work.new.hit n) (IsPart (length text.now)) }

@@ -208,8 +208,8 @@ outcome_of (Hit at captures left) = outcomes.Hit
 outcome_of (Miss left) = outcomes.Miss
 outcome_of Spent = outcomes.Spent
 
--- the captures of the last hit, where an attempt ends so
-abbrev pub hit_after : Ran → Captures → Captures
-hit_after (Hit at captures left) last = captures
-hit_after (Miss left) last = last
-hit_after Spent last = last
+-- the captures of the last hit, after an attempt that ends so: its own at a hit, and else those of before
+abbrev pub last_hit_captures : Ran → Captures → Captures
+last_hit_captures (Hit at captures left) last = captures
+last_hit_captures (Miss left) last = last
+last_hit_captures Spent last = last

@@ -1,16 +1,18 @@
 -- Worked examples of attempts and searches, each named by what it shows.
 use Rattle.std.specs.Prelude.{◌≡◌, ℕ, List, [], ◌∷◌, map, codes, Bool, true, false, Option, Some, None, refl}
-use Rattle.char_sets.specs.declared.char_set.CharRange.{CharRange}
+use Rattle.ucd_table.specs.Rows.{value_in}
+use Rattle.ucd_category.specs.GeneralCategory.{general_category}
+use Rattle.ucd_category.specs.GeneralCategoryRows.{general_category_rows}
+use Rattle.char_sets.specs.Named.{is_word}
 use Rattle.pattern_defs.specs.declared.nodes.ListId.{ListId}
-use Rattle.pattern_defs.specs.declared.nodes.Arm.{Arm}
-use Rattle.pattern_defs.specs.declared.nodes.Anchor.TheVariants.{LineStart, LineEnd, First, Mark, End, LastEnd, WordEdge}
+use Rattle.pattern_defs.specs.declared.nodes.Anchor.TheVariants.{LineStart, LineEnd, First, Mark, End, LastEnd, WordEdge, NoWordEdge}
 use Rattle.pattern_defs.specs.declared.nodes.PatNode.{PatNode}
 use Rattle.pattern_defs.specs.declared.nodes.PatNode.TheVariants.{One, At, Choice, Group, Repeat, Ahead, Behind, Atomic, Back}
 use Rattle.pattern_defs.specs.declared.outcomes.Flags.{Flags}
 use Rattle.pattern_defs.specs.declared.outcomes.Found.TheVariants as found
 use Rattle.pattern_defs.specs.declared.outcomes.Place.{Place}
 use Rattle.pattern_defs.specs.Patterns.{NodeLists, Tree, size_of, is_flat}
-use Rattle.pattern_defs.specs.Attempt.{Ran, Hit, Miss, Spent, Captures, Subject, attempt, go_on, holds_at, hit_after}
+use Rattle.pattern_defs.specs.Attempt.{Hit, Miss, Spent, Captures, Subject, attempt, go_on, holds_at, last_hit_captures}
 use Rattle.pattern_defs.specs.FirstMatch.{first_match}
 
 abbrev pub id : ℕ → ListId
@@ -36,6 +38,11 @@ place from to = Some (record { from = from; to = to })
 abbrev pub flags : Flags
 flags = record { first = true; anchor = None }
 
+-- `.`, outside the option `m` and under it
+abbrev pub dot : Bool → PatNode
+dot false = One (record { first = 0; last = 9 } ∷ record { first = 11; last = 1_114_111 } ∷ [])
+dot true = One (record { first = 0; last = 1_114_111 } ∷ [])
+
 -- a pattern with so many numbered groups
 abbrev pub with_groups : ℕ → NodeLists → ℕ → Tree
 with_groups groups lists top = record { lists = lists; top = id top; groups = groups }
@@ -45,7 +52,16 @@ plain lists top = with_groups 0 lists top
 
 -- what the groups took at the place, with a budget that suffices; nothing where there is no match
 abbrev pub taken : Tree → List ℕ → ℕ → Captures
-taken tree text at = hit_after (attempt tree text at flags 100) []
+taken tree text at = last_hit_captures (attempt tree text at flags 100) []
+
+-- ---- single characters
+
+-- `.` on a line feed, on `a` and on an empty text
+pub a_dot_takes_a_line_feed_only_under_m :
+    (map (λ text. taken (plain ((dot true ∷ []) ∷ []) 0) text 0) ((10 ∷ []) ∷ codes "a" ∷ [] ∷ []) ≡ (place 0 1 ∷ []) ∷ (place 0 1 ∷ []) ∷ [] ∷ [])
+    × (map (λ text. taken (plain ((dot false ∷ []) ∷ []) 0) text 0) ((10 ∷ []) ∷ codes "a" ∷ [] ∷ []) ≡ [] ∷ (place 0 1 ∷ []) ∷ [] ∷ [])
+unfolding go_on
+a_dot_takes_a_line_feed_only_under_m = (refl, refl)
 
 -- ---- repeats
 
@@ -131,14 +147,23 @@ pub a_nested_run_has_visits_of_its_own :
 unfolding go_on
 a_nested_run_has_visits_of_its_own = refl
 
--- `(?<=ab|c)c`
-abbrev pub behind : Tree
-behind = plain ((a ∷ b ∷ []) ∷ (c ∷ []) ∷ (Behind (record { length = 2; body = id 0 } ∷ record { length = 1; body = id 1 } ∷ []) true ∷ c ∷ []) ∷ []) 2
+-- `(?<=ab|c)c` and `(?<!ab|c)c`
+abbrev pub behind : Bool → Tree
+behind wanted = plain ((a ∷ b ∷ []) ∷ (c ∷ []) ∷ (Behind (record { length = 2; body = id 0 } ∷ record { length = 1; body = id 1 } ∷ []) wanted ∷ c ∷ []) ∷ []) 2
 
 pub a_lookbehind_sees_what_lies_before :
-    (taken behind (codes "abc") 2 ≡ place 2 3 ∷ []) × (taken behind (codes "cc") 1 ≡ place 1 2 ∷ []) × (taken behind (codes "bc") 1 ≡ [])
+    (taken (behind true) (codes "abc") 2 ≡ place 2 3 ∷ []) × (taken (behind true) (codes "cc") 1 ≡ place 1 2 ∷ []) × (taken (behind true) (codes "bc") 1 ≡ [])
 unfolding go_on
 a_lookbehind_sees_what_lies_before = (refl, refl, refl)
+
+pub a_negative_lookbehind_fits_where_no_arm_does :
+    (taken (behind false) (codes "abc") 2 ≡ []) × (taken (behind false) (codes "cc") 1 ≡ []) × (taken (behind false) (codes "bc") 1 ≡ place 1 2 ∷ [])
+unfolding go_on
+a_negative_lookbehind_fits_where_no_arm_does = (refl, refl, refl)
+
+pub an_arm_that_is_longer_than_the_place_does_not_fit : map (λ wanted. taken (behind wanted) (codes "c") 0) (true ∷ false ∷ []) ≡ [] ∷ (place 0 1 ∷ []) ∷ []
+unfolding go_on
+an_arm_that_is_longer_than_the_place_does_not_fit = refl
 
 -- `(?>a*)ab` on `aab`
 pub an_atomic_group_is_left_as_it_is :
@@ -168,6 +193,19 @@ the_first_place_is_known_by_its_flag = refl
 
 pub the_mark_is_where_the_flag_says : map (holds_at Mark (lines (record { first = false; anchor = Some 2 }))) (1 ∷ 2 ∷ []) ≡ false ∷ true ∷ []
 the_mark_is_where_the_flag_says = refl
+
+-- ---- `\b` and `\B`, in the text `ab` LF
+
+abbrev pub word : Subject
+word = record { lists = []; text = 97 ∷ 98 ∷ 10 ∷ []; flags = flags }
+
+pub a_word_has_an_edge_at_each_end : map (holds_at WordEdge word) (0 ∷ 1 ∷ 2 ∷ 3 ∷ []) ≡ true ∷ false ∷ true ∷ false ∷ []
+unfolding is_word general_category value_in general_category_rows
+a_word_has_an_edge_at_each_end = refl
+
+pub no_word_has_an_edge_elsewhere : map (holds_at NoWordEdge word) (0 ∷ 1 ∷ 2 ∷ 3 ∷ []) ≡ false ∷ true ∷ false ∷ true ∷ []
+unfolding is_word general_category value_in general_category_rows
+no_word_has_an_edge_elsewhere = refl
 
 -- ---- numbers of a pattern
 

@@ -6,7 +6,7 @@ use Rattle.pattern_defs.specs.declared.outcomes.Flags.{Flags}
 use Rattle.pattern_defs.specs.declared.outcomes.Found.{Found}
 use Rattle.pattern_defs.specs.declared.outcomes.Found.TheVariants as found
 use Rattle.pattern_defs.specs.Patterns.{Tree}
-use Rattle.pattern_defs.specs.Attempt.{Ran, Hit, Miss, Spent, Captures, attempt}
+use Rattle.pattern_defs.specs.Attempt.{Ran, Hit, Miss, Spent, Captures, attempt, last_hit_captures}
 
 -- a pattern with its number, tried at a place
 pub record Pair : Type 0 where
@@ -55,13 +55,9 @@ found_at text flags budget (Some pair) = answer_by pair (tried text flags budget
 abbrev pub first_match : List Tree → List ℕ → ℕ → Flags → ℕ → Found
 first_match trees text from flags budget = found_at text flags budget (first_pair trees text from flags budget)
 
-abbrev pub captures_by : Ran → Captures → Captures
-captures_by (Hit at captures left) last = captures
-captures_by _ last = last
-
 abbrev pub captures_at : List ℕ → Flags → ℕ → Option Pair → Captures → Captures
 captures_at text flags budget None last = last
-captures_at text flags budget (Some pair) last = captures_by (tried text flags budget pair) last
+captures_at text flags budget (Some pair) last = last_hit_captures (tried text flags budget pair) last
 
 -- the captures of the last hit, after a search
 abbrev pub captures_after : List Tree → List ℕ → ℕ → Flags → ℕ → Captures → Captures
