@@ -1,9 +1,11 @@
+pub mod Budgets
 pub mod Carries
 pub mod Ends
 pub mod Flat
 pub mod Fronts
 pub mod Lists
 pub mod NodeSteps
+pub mod Parts
 pub mod PileLemmas
 pub mod ReturnSteps
 pub mod Steps

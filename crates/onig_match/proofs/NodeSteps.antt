@@ -107,7 +107,7 @@ lead_where on old first false rest at to here low same =
     lead_added on old old (acted on old first rest at) Failed (AddsCell-none on old here.sound) tt
     (λ left. ap (λ (ran : Ran). carried (subject on) old ran) (same left))
 
-is_char_within : (p : ℕ → Bool) (text : List ℕ) (at : ℕ) → is_char p (slice_get text at) ≡ true → at + 1 ≤ length text
+pub is_char_within : (p : ℕ → Bool) (text : List ℕ) (at : ℕ) → is_char p (slice_get text at) ≡ true → at + 1 ≤ length text
 is_char_within p [] at e = cc
 is_char_within p (c ∷ text) zero e = omega arith
 is_char_within p (c ∷ text) (suc at) e = omega (arith, is_char_within p text at e)
@@ -130,7 +130,7 @@ length-folded : (fold : Bool) (cs : List ℕ) → length (folded fold cs) ≡ le
 length-folded true cs = length-map cs to_ascii_lowercase
 length-folded false cs = refl
 
-stands_within : (fold : Bool) (text : List ℕ) (taken : Place) (at : ℕ) → taken.to ≤ length text → at ≤ length text →
+pub stands_within : (fold : Bool) (text : List ℕ) (taken : Place) (at : ℕ) → taken.to ≤ length text → at ≤ length text →
     stands_again fold text taken at ≡ true → at + (taken.to - taken.from) ≤ length text
 stands_within fold text taken at low there stands =
     let here : length (folded fold (drop at text)) ≡ length text - at = length-folded fold (drop at text) ∙ length-drop at text in

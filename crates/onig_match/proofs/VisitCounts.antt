@@ -14,8 +14,8 @@ left_of (Miss left) = left
 left_of Spent = 0
 
 -- no more visits are left after it than before
-record Lowers (go : Going) : Type 0 where
-  lowers : (todo : List Todo) (at : ℕ) (captures : Captures) (left : ℕ) → left_of (go todo at captures left) ≤ left
+pub record Lowers (go : Going) : Type 0 where
+  pub lowers : (todo : List Todo) (at : ℕ) (captures : Captures) (left : ℕ) → left_of (go todo at captures left) ≤ left
 
 -- two ways to go on are the same where so many visits are left at most
 record Agrees (go other : Going) (most : ℕ) : Type 0 where
@@ -33,7 +33,7 @@ or_else-same (Hit at captures left) other next next' most e h same = rw (← e) 
 or_else-same (Miss left) other next next' most e h same = rw (← e) (same left h)
 or_else-same Spent other next next' most e h same = rw (← e) refl
 
-where_holds-lowers : (b : Bool) (go : Going) (todo : List Todo) (at : ℕ) (captures : Captures) (left : ℕ) →
+pub where_holds-lowers : (b : Bool) (go : Going) (todo : List Todo) (at : ℕ) (captures : Captures) (left : ℕ) →
     Lowers go → left_of (where_holds b go todo at captures left) ≤ left
 where_holds-lowers true go todo at captures left l = l.lowers todo at captures left
 where_holds-lowers false go todo at captures left l = omega arith
@@ -58,7 +58,7 @@ tries-same go other most (todo ∷ ways) at captures left a l h =
     (a.same todo at captures left h) (omega (arith, l.lowers todo at captures left))
     (λ rest k. tries-same go other most ways at captures rest a l k)
 
-arms_run-lowers : (s : Subject) (go : Going) (arms : List Arm) (at : ℕ) (captures : Captures) (left : ℕ) →
+pub arms_run-lowers : (s : Subject) (go : Going) (arms : List Arm) (at : ℕ) (captures : Captures) (left : ℕ) →
     Lowers go → left_of (arms_run s go arms at captures left) ≤ left
 arms_run-lowers s go [] at captures left l = omega arith
 arms_run-lowers s go (arm ∷ arms) at captures left l =
@@ -158,12 +158,12 @@ look-lowers s go todo at captures zero l = omega arith
 look-lowers s go [] at captures (suc left) l = omega arith
 look-lowers s go (first ∷ rest) at captures (suc left) l = omega (arith, act-lowers s go first rest at captures left l)
 
-go_on-lowers : (s : Subject) (fuel : ℕ) → Lowers (go_on s fuel)
+pub go_on-lowers : (s : Subject) (fuel : ℕ) → Lowers (go_on s fuel)
 unfolding go_on
 go_on-lowers s zero = record { lowers = λ todo at captures left. omega arith }
 go_on-lowers s (suc fuel) = record { lowers = λ todo at captures left. look-lowers s (go_on s fuel) todo at captures left (go_on-lowers s fuel) }
 
-go_on-zero : (s : Subject) (fuel : ℕ) (todo : List Todo) (at : ℕ) (captures : Captures) →
+pub go_on-zero : (s : Subject) (fuel : ℕ) (todo : List Todo) (at : ℕ) (captures : Captures) →
     go_on s fuel todo at captures zero ≡ Spent
 unfolding go_on
 go_on-zero s zero todo at captures = refl

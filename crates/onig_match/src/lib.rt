@@ -8,12 +8,14 @@ mod backs;
 mod captures;
 mod cells;
 mod entries;
+pub mod laws;
 mod pile;
 mod returns;
 mod searched;
 mod visits;
 pub mod work;
 
+pub use laws::a_greater_budget_changes_no_answer;
 pub use pattern_defs::{Flags, Outcome, Place};
 pub use work::{Work, attempt};
 

@@ -1,11 +1,11 @@
-ghost use Rattle.std.specs.Prelude.{◌≡◌, ◌≢◌, ◌+◌, ◌-◌, ◌*◌, ◌<◌, ◌≤◌, ◌^◌, [], length, replicate, slice_get, None, IfOk, IsTrue, option_and_then};
+ghost use Rattle.std.specs.Prelude.{◌≡◌, ◌≢◌, ℕ, ◌+◌, ◌-◌, ◌*◌, ◌<◌, ◌≤◌, ◌^◌, [], length, replicate, slice_get, None, IfOk, IfSome, IsSomeAnd, IsTrue, option_and_then};
 ghost use Rattle.pattern_defs.specs.declared.outcomes.Outcome.TheVariants as outcomes;
 ghost use Rattle.pattern_defs.specs.Patterns.{is_flat, size_of, AreLists};
 ghost use Rattle.pattern_defs.specs.Attempt.{attempt as attempt_of, before, capture_of, outcome_of, last_hit_captures};
 ghost use Rattle.onig_match.specs.Goes.{goes};
 ghost use Rattle.onig_match.specs.Machine.{subject, end_of};
 ghost use Rattle.onig_match.specs.Sound.{IsSound, IsHere, HasRoom, SameRooms};
-ghost use Rattle.onig_match.specs.Works.{Worked};
+ghost use Rattle.onig_match.specs.Works.{Worked, IsPart};
 
 use crate::area::{Area, start_of};
 use crate::captures::Captures;
@@ -173,6 +173,10 @@ pub fn attempt(pattern: &Pattern, work: &mut Work, text: &[char], at: u32, flags
       hit = last_hit_captures (attempt_of pattern.now text.now at flags work.old.budget) work.old.hit;
     } }
     ensures groups { result ≡ Outcome.Hit → length work.new.hit ≡ pattern.now.groups + 1 }
+    // what each group took is a part of the text, and the whole match begins at the place
+    ensures captures { result ≡ Outcome.Hit → (n : ℕ) →
+        IfSome (capture_of work.new.hit n) (IsPart (length text.now)) }
+    ensures whole { result ≡ Outcome.Hit → IsSomeAnd (capture_of work.new.hit 0) (λ place. place.from ≡ at) }
     ensures flat { IsTrue (is_flat pattern.now) →
         2 * size_of pattern.now + 2 ≤ work.old.budget → result ≢ Outcome.Spent }
 {

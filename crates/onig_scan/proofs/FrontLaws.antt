@@ -1,16 +1,15 @@
 -- Which nodes miss without a character of a set, by cases on the first of them.
-use Rattle.std.proofs.Common.{◌≡◌, ℕ, zero, suc, ◌+◌, ◌-◌, ◌<◌, ◌≤◌, Bool, true, false, List, [], ◌∷◌, ◌++◌, length, map, get_or, Option, Some, None, refl, sym, ap, ◌∙◌, subst, arith}
+use Rattle.std.proofs.Common.{◌≡◌, ℕ, zero, suc, ◌+◌, ◌<◌, ◌≤◌, Bool, true, false, List, [], ◌∷◌, ◌++◌, length, map, get_or, Option, Some, None, refl, sym, ap, ◌∙◌, subst, arith}
 use Rattle.std.proofs.lemmas.Bool.{lt-ltb, false≢true}
-use Rattle.std.specs.Prelude.{Result, Ok, Err, IfOk, ◌||◌, ◌&&◌, ◌==◌, nat_lt, slice_get, slice_set, unwrap_or, IfSome}
-use Rattle.char_sets.specs.Ranges.{in_set, IsSetOf}
+use Rattle.std.specs.Prelude.{Result, Ok, Err, IfOk, nat_lt, slice_get, IfSome}
+use Rattle.char_sets.specs.Ranges.{in_set}
 use Rattle.char_sets.specs.declared.char_set.CharRange.{CharRange}
 use Rattle.pattern_defs.specs.declared.nodes.ListId.{ListId}
 use Rattle.pattern_defs.specs.declared.nodes.Anchor.{Anchor}
 use Rattle.pattern_defs.specs.declared.nodes.PatNode.{PatNode}
-use Rattle.pattern_defs.specs.declared.nodes.PatNode.TheVariants.{One, At, Choice, Group, Repeat, Ahead, Behind, Atomic, Back}
+use Rattle.pattern_defs.specs.declared.nodes.PatNode.TheVariants.{One, At, Choice, Group, Repeat, Atomic}
 use Rattle.pattern_defs.specs.Patterns.{NodeLists, Tree, AllIds, nodes_of}
-use Rattle.pattern_defs.specs.Attempt.{Subject, Todo, Node, Close, Again, Captures, Ran, Hit, Miss, Spent, Going, is_char, act, look, go_on, tries, or_else, where_holds, before, holds_at, kept_whole, repeats, repeat_ways, in_order, is_greatest, attempt, with_whole}
-use Rattle.pattern_defs.specs.FirstMatch.{is_no_miss}
+use Rattle.pattern_defs.specs.Attempt.{Subject, Todo, Node, Close, Again, Captures, Ran, Miss, Going, is_char, act, go_on, tries, or_else, where_holds, before, holds_at, kept_whole, repeat_ways, is_greatest, attempt, with_whole}
 use Rattle.onig_scan.specs.Fronts.{IsWithout, MissesWith, IsFrontOf, IsFront, AreFronts, IsWithin}
 
 -- a look at a list that isn't empty takes one visit

@@ -1,48 +1,19 @@
 -- Searches, pair by pair and place by place.
-use Rattle.std.proofs.Common.{◌≡◌, ℕ, suc, ◌+◌, ◌-◌, ◌<◌, ◌≤◌, Bool, true, false, List, [], ◌∷◌, ◌++◌, length, drop, get_or, Option, Some, None, refl, sym, ap, ◌∙◌, subst, arith}
-use Rattle.std.specs.Prelude.{find}
+use Rattle.std.proofs.Common.{◌≡◌, ℕ, suc, ◌+◌, ◌-◌, ◌≤◌, Bool, true, false, List, [], ◌∷◌, ◌++◌, length, Option, Some, None, refl, sym, ap, ◌∙◌, subst, arith}
+use Rattle.std.specs.Prelude.{find, IsSomeAnd}
 use Rattle.std.specs.List.{flat_map}
 use Rattle.std.specs.Option.{option_or}
 use Rattle.std.proofs.lemmas.List.Folds.{find-append}
-use Rattle.std.proofs.Math.Seq.{drop-cons}
 use Rattle.std.proofs.lemmas.List.Concat.{flat_map-cons}
 use Rattle.pattern_defs.specs.declared.outcomes.Flags.{Flags}
 use Rattle.pattern_defs.specs.declared.outcomes.Found.{Found}
 use Rattle.pattern_defs.specs.declared.outcomes.Found.TheVariants as found
-use Rattle.pattern_defs.specs.declared.outcomes.Outcome.TheVariants as outcomes
+use Rattle.pattern_defs.specs.declared.outcomes.Found.TheVariants.{At, Nowhere}
+use Rattle.pattern_defs.specs.declared.outcomes.Place.{Place}
 use Rattle.pattern_defs.specs.Patterns.{Tree}
-use Rattle.pattern_defs.specs.Attempt.{Ran, Hit, Miss, Spent, outcome_of, attempt}
+use Rattle.pattern_defs.specs.Attempt.{Ran, Hit, Miss, Spent}
 use Rattle.pattern_defs.specs.FirstMatch.{Pair, pairs_at, places, pairs, tried, is_no_miss, first_of, first_pair, answer_by, found_at}
-
--- an attempt that hits decides
-
-hit_decides : (r : Ran) → outcomes.Hit ≡ outcome_of r → is_no_miss r ≡ true
-hit_decides (Hit at captures left) h = refl
-hit_decides (Miss left) h = absurd (cc)
-hit_decides Spent h = refl
-
-hit_answers : (p : Pair) (r : Ran) → outcomes.Hit ≡ outcome_of r → found.At p.index ≡ answer_by p r
-hit_answers p (Hit at captures left) h = refl
-hit_answers p (Miss left) h = absurd (cc)
-hit_answers p Spent h = absurd (cc)
-
-pub found_at-hit : (p : Pair) (rest : List Pair) (text : List ℕ) (flags : Flags) (budget : ℕ) (whole : Option Pair) → first_of (p ∷ rest) text flags budget ≡ whole → outcomes.Hit ≡ outcome_of (tried text flags budget p) → found.At p.index ≡ found_at text flags budget whole
-found_at-hit p rest text flags budget whole e h =
-    let first : first_of (p ∷ rest) text flags budget ≡ Some p = rw (hit_decides (tried text flags budget p) h) refl in
-    rw (sym e, first) (hit_answers p (tried text flags budget p) h)
-
--- the pattern at a place in a list
-
-pub hit_at : (trees : List Tree) (i at : ℕ) (tree : Tree) (text : List ℕ) (flags : Flags) (budget total : ℕ) (all : List Pair)
-    → i < length trees → tree ≡ get_or trees i tree → budget ≡ total
-    → first_of (pairs_at i (drop i trees) at) text flags budget ≡ first_of all text flags budget
-    → outcomes.Hit ≡ outcome_of (attempt tree text at flags budget)
-    → found.At i ≡ found_at text flags total (first_of all text flags total)
-hit_at trees i at tree text flags budget total all h read same missed hit =
-    let split : drop i trees ≡ tree ∷ drop (suc i) trees = drop-cons trees i tree h ∙ ap (λ y. y ∷ drop (suc i) trees) (sym read) in
-    let Missed : List Tree → Type 0 = λ ts. first_of (pairs_at i ts at) text flags budget ≡ first_of all text flags budget in
-    let Answers : ℕ → Type 0 = λ b. found.At i ≡ found_at text flags b (first_of all text flags b) in
-    subst Answers same (found_at-hit (record { place = at; index = i; tree = tree }) _ text flags budget _ (subst Missed split missed) hit)
+use Rattle.onig_scan.specs.Answers.{IsAmong, IfAt}
 
 -- places, one after the other
 
@@ -103,3 +74,22 @@ pub first_pair-missed : (trees : List Tree) (text : List ℕ) (from at : ℕ) (f
 first_pair-missed trees text from at flags budget h missed is =
     let none : first_of (pairs_at 0 trees at) text flags budget ≡ None = first_of-nowhere (pairs_at 0 trees at) text flags budget is in
     sym (sym missed ∙ first_pair-step trees text at flags budget h ∙ ap (λ o. option_or o (first_pair trees text (at + 1) flags budget)) none)
+
+-- what is known of the answer at one place holds of a search that goes by this place
+
+pub IsAmong-widen : (patterns from at to : ℕ) (result : Found) → from ≤ at → at ≤ to → IsAmong patterns at at result →
+    IsAmong patterns from to result
+IsAmong-widen patterns from at to (At index) low high is = is
+IsAmong-widen patterns from at to Nowhere low high is = tt
+IsAmong-widen patterns from at to (found.Spent index place) low high is = (is.0, omega (arith, is), omega (arith, is))
+
+begins_later : (from at : ℕ) (taken : Option Place) → from ≤ at → IsSomeAnd taken (λ place. place.from ≡ at) →
+    IsSomeAnd taken (λ place. from ≤ place.from)
+begins_later from at None low begins = absurd begins
+begins_later from at (Some place) low begins = omega (arith, begins)
+
+pub whole-widen : (from at : ℕ) (result : Found) (taken : Option Place) → from ≤ at →
+    IfAt result (λ _. IsSomeAnd taken (λ place. place.from ≡ at)) → IfAt result (λ _. IsSomeAnd taken (λ place. from ≤ place.from))
+whole-widen from at (At index) taken low begins = begins_later from at taken low begins
+whole-widen from at Nowhere taken low begins = tt
+whole-widen from at (found.Spent index place) taken low begins = tt

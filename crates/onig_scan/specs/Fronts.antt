@@ -6,7 +6,7 @@ use Rattle.char_sets.specs.declared.char_set.CharRange.{CharRange}
 use Rattle.pattern_defs.specs.declared.nodes.ListId.{ListId}
 use Rattle.pattern_defs.specs.declared.nodes.PatNode.{PatNode}
 use Rattle.pattern_defs.specs.declared.nodes.PatNode.TheVariants.{Repeat}
-use Rattle.pattern_defs.specs.Patterns.{NodeLists, Tree, nodes_of}
+use Rattle.pattern_defs.specs.Patterns.{NodeLists, nodes_of}
 use Rattle.pattern_defs.specs.Attempt.{Subject, Todo, Node, Captures, Ran, Miss, is_char, go_on}
 
 -- no character of the set stands at the place

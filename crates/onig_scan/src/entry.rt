@@ -1,6 +1,7 @@
-ghost use Rattle.std.specs.Prelude.{◌≡◌, ◌<◌, ◌≤◌, ◌^◌, length, IfOk};
+ghost use Rattle.std.specs.Prelude.{◌≡◌, ℕ, ◌+◌, ◌<◌, ◌≤◌, ◌^◌, length, IfOk, IfSome, IsSomeAnd};
 ghost use Rattle.std.specs.Rc.{rc_value};
-ghost use Rattle.pattern_defs.specs.Attempt.{outcome_of, last_hit_captures, attempt as attempted};
+ghost use Rattle.pattern_defs.specs.Attempt.{capture_of, outcome_of, last_hit_captures, attempt as attempted};
+ghost use Rattle.onig_match.specs.Works.{IsPart};
 
 use crate::front::{Front, MOST_DEEP, front_of};
 use onig_match::{Work, attempt};
@@ -53,6 +54,10 @@ impl Entry {
         requires room { self.now.groups ≤ work.old.room }
         ensures outcome { result ≡ outcome_of (attempted self.now text.now at flags work.old.budget) }
         ensures work { work.new ≡ record work.old { hit = last_hit_captures (attempted self.now text.now at flags work.old.budget) work.old.hit } }
+        ensures groups { result ≡ Outcome.Hit → length work.new.hit ≡ self.now.groups + 1 }
+        ensures captures { result ≡ Outcome.Hit → (n : ℕ) →
+            IfSome (capture_of work.new.hit n) (IsPart (length text.now)) }
+        ensures whole { result ≡ Outcome.Hit → IsSomeAnd (capture_of work.new.hit 0) (λ place. place.from ≡ at) }
     {
         if let Some(front) = &self.front {
             if front.misses_at(text, at, work.budget()) {

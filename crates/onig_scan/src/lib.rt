@@ -3,8 +3,10 @@
 
 mod entry;
 mod front;
+pub mod laws;
 pub mod scanner;
 
+pub use laws::a_greater_budget_changes_no_match;
 pub use pattern_defs::{Flags, Found, Outcome, Place};
 pub use scanner::Scanner;
 

@@ -1,6 +1,9 @@
-ghost use Rattle.std.specs.Prelude.{◌≡◌, ℕ, ◌<◌, ◌≤◌, ◌^◌, All, length, map, IfOk};
+ghost use Rattle.std.specs.Prelude.{◌≡◌, ℕ, ◌+◌, ◌<◌, ◌≤◌, ◌^◌, All, length, map, slice_get, IfOk, IfSome, IsSomeAnd};
 ghost use Rattle.std.specs.Rc.{rc_value};
 ghost use Rattle.pattern_defs.specs.FirstMatch.{pairs_at, first_of, found_at, captures_at, first_match, captures_after};
+ghost use Rattle.pattern_defs.specs.Attempt.{capture_of};
+ghost use Rattle.onig_match.specs.Works.{IsPart};
+ghost use Rattle.onig_scan.specs.Answers.{IsAmong, IfAt};
 
 use crate::entry::Entry;
 use onig_match::Work;
@@ -51,6 +54,11 @@ fn find_at(entries: &[Entry], work: &mut Work, text: &[char], at: u32, flags: Fl
       hit = captures_at text.now flags work.old.budget
           (first_of (pairs_at 0 entries.now at) text.now flags work.old.budget) work.old.hit;
     } }
+    ensures names { IsAmong (length entries.now) at at result }
+    ensures groups { IfAt result (λ index. IsSomeAnd (slice_get entries.now index)
+        (λ tree. length work.new.hit ≡ tree.groups + 1)) }
+    ensures captures { IfAt result (λ _. (n : ℕ) → IfSome (capture_of work.new.hit n) (IsPart (length text.now))) }
+    ensures whole { IfAt result (λ _. IsSomeAnd (capture_of work.new.hit 0) (λ place. place.from ≡ at)) }
 {
     for (index, entry) in entries.iter().enumerate() {
         match entry.attempt(work, text, at, flags) {
@@ -100,6 +108,14 @@ impl Scanner {
         requires room { All (λ tree. tree.groups ≤ work.old.room) self.now }
         ensures found { result ≡ first_match self.now text.now from flags work.old.budget }
         ensures work { work.new ≡ record work.old { hit = captures_after self.now text.now from flags work.old.budget work.old.hit } }
+        // the pattern that is named is one of these, and the place that is named is within the text
+        ensures names { IsAmong (length self.now) from (length text.now) result }
+        ensures groups { IfAt result (λ index. IsSomeAnd (slice_get self.now index)
+            (λ tree. length work.new.hit ≡ tree.groups + 1)) }
+        // what each group took is a part of the text, and the whole match doesn't begin before `from`
+        ensures captures { IfAt result (λ _. (n : ℕ) →
+            IfSome (capture_of work.new.hit n) (IsPart (length text.now))) }
+        ensures whole { IfAt result (λ _. IsSomeAnd (capture_of work.new.hit 0) (λ place. from ≤ place.from)) }
     {
         let end = text.len() as u32 + 1;
         for at in from..end {

@@ -1,8 +1,10 @@
-use Rattle.std.proofs.Common.{ap}
-use Rattle.pattern_defs.specs.Attempt.{Captures}
-use Rattle.onig_match.specs.Works.{Worked}
+use Rattle.std.proofs.Common.{ℕ, ◌≡◌, length, ap, sym, subst}
+use Rattle.std.specs.Prelude.{IfSome, IsSomeAnd}
+use Rattle.pattern_defs.specs.Attempt.{Captures, capture_of}
+use Rattle.onig_match.specs.Works.{Worked, IsPart}
 use Rattle.onig_match.proofs.Ends.{attempt-goes, found_outcome, found_hit, failed_outcome, failed_hit, spent_outcome, spent_hit, sound_empty}
 use Rattle.onig_match.proofs.Flat.{flat_is_never_spent}
+use Rattle.onig_match.proofs.Parts.{captured_parts, captured_whole}
 use Rattle.onig_match.proofs.work.attempt.Goals as goal
 
 pub run-requires-clause-sound : goal.run-requires-clause-sound
@@ -21,6 +23,20 @@ returns-in-Found-clause-work c =
     rw (← c.work.view_is, c.swap.ensures.x_after, c.set.ensures, attempt-goes c.args.pattern.now c.args.text.now c.args.at c.args.flags c.work.inside.budget)
     (ap (λ (hit : Captures). let w : Worked = record { budget = c.work.inside.budget; room = c.work.inside.room; hit = hit } in w)
     (found_hit _ c.args.at c.in-Found.end c.run.new.self.captures.items c.work.inside.hit.items ended seen))
+
+pub returns-in-Found-clause-captures : goal.returns-in-Found-clause-captures
+returns-in-Found-clause-captures c =
+    let AllParts : Worked → Type 0 = λ w. (n : ℕ) → IfSome (capture_of w.hit n) (IsPart (length c.args.text.now)) in
+    λ _. subst AllParts (sym (returns-in-Found-clause-work c))
+    (captured_parts c.args.pattern.now c.args.text.now c.args.at c.args.flags c.args.work.now.budget c.args.work.now.hit c.requires.at
+    (returns-in-Found-clause-outcome c))
+
+pub returns-in-Found-clause-whole : goal.returns-in-Found-clause-whole
+returns-in-Found-clause-whole c =
+    let Begins : Worked → Type 0 = λ w. IsSomeAnd (capture_of w.hit 0) (λ place. place.from ≡ c.args.at) in
+    λ _. subst Begins (sym (returns-in-Found-clause-work c))
+    (captured_whole c.args.pattern.now c.args.text.now c.args.at c.args.flags c.args.work.now.budget c.args.work.now.hit c.requires.at
+    (returns-in-Found-clause-outcome c))
 
 pub returns-in-Failed-clause-outcome : goal.returns-in-Failed-clause-outcome
 returns-in-Failed-clause-outcome c =

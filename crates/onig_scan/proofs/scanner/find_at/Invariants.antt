@@ -1,5 +1,4 @@
-use Rattle.std.proofs.Common.{◌≡◌, map, drop}
-use Rattle.std.specs.Rc.{rc_value}
+use Rattle.std.proofs.Common.{◌≡◌, drop}
 use Rattle.pattern_defs.specs.FirstMatch.{pairs_at, first_of}
 use Rattle.onig_scan.proofs.scanner.find_at.Given as goal
 
