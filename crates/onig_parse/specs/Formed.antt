@@ -13,11 +13,11 @@ abbrev pub IsRead : Result (Read (ℕ → Bool)) Fault → Type 0
 IsRead (Ok read) = Unit {0}
 IsRead (Err fault) = ⊥
 
--- a single item stands at a place of the text
-pub record IsSingle (text : List ℕ) (at : ℕ) (options : Options) (depth : ℕ) : Type 0 where
+-- a single item stands at a place of the text, inside so many forms
+pub record IsSingle (text : List ℕ) (at : ℕ) (options : Options) (forms : ℕ) : Type 0 where
   pub place : at ≤ length text
-  pub depth : depth ≤ 100
-  pub read : IsRead (single_at options depth at (drop at text))
+  pub depth : forms ≤ 100
+  pub read : IsRead (single_at options forms at (drop at text))
 
 -- the item names only lists with numbers below n, and groups from 1 to the number of groups
 abbrev pub IsItem : List ℕ → ℕ → ℕ → Item → Type 0
