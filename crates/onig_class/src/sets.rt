@@ -43,7 +43,11 @@ pub fn dot(alloc: Global, many: bool) -> Result<CharSet, AllocError>
 }
 
 /// A set or, where `negated`, its complement.
-pub(crate) fn complement_if(alloc: Global, set: CharSet, negated: bool) -> Result<CharSet, AllocError>
+pub(crate) fn complement_if(
+    alloc: Global,
+    set: CharSet,
+    negated: bool,
+) -> Result<CharSet, AllocError>
     ensures { (p : ℕ → Bool) → IsSetOf set p → IfOk result (λ s. IsSetOf s (complement_if negated p)) }
 {
     if negated {
