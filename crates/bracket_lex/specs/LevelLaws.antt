@@ -1,5 +1,5 @@
--- What levels count, whatever the marks of a text, its end and the limit on nesting: the openers that are open there.
--- That it is so is this project's own.
+-- What levels count, and which mark more has a row, whatever the marks of a text, its end and the limit on nesting: both
+-- go by the openers that are open there. That it is so is this project's own.
 use Rattle.std.specs.Prelude.{◌≡◌, ℕ, ◌<◌, ◌≤◌, ◌⊎◌, List, [], ◌∷◌, ◌++◌, length, Some, None, slice_get}
 use Rattle.text_pos.specs.declared.length.Pos.{Pos}
 use Rattle.text_pos.specs.declared.kinds.Kinds.{Kinds}

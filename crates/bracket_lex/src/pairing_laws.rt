@@ -31,7 +31,8 @@ pub fn closers_take_the_last_opener()
     ensures { ClosersTakeTheLastOpener }
 {}
 
-/// Levels are how many openers are open, and kind levels how many of one kind.
+/// An opener's level is how many openers are open before it, and its kind level how many of its kind. A closer without
+/// partner has such a level too, and kind level 0.
 pub fn levels_count_open_rows()
     ensures openers { OpenersCountTheOpen }
     ensures closers { LoneClosersCountTheOpen }

@@ -26,7 +26,8 @@ pub fn run<F: Files, S: Source, K: Sink, L: Ledger, M: Ledger>(
     steps: &mut Steps<L>,
     marks: &mut Steps<M>,
 ) -> Status
-    // All that is told of each status: what follows are its parts, each in its own words.
+    // All that is told of each status. What follows are its parts, each in its own words, and beside it `contents`,
+    // `steps` and `marks`.
     ensures ends { IsRun (F.contents files.old) (F.faults files.old) (F.faults files.new)
         (outside (S.left script.old) (K.held sink.old) (S.faults script.old) (K.faults sink.old))
         (outside (S.left script.new) (K.held sink.new) (S.faults script.new) (K.faults sink.new))

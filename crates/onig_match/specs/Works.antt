@@ -1,4 +1,4 @@
--- What callers see of the room for attempts.
+-- What callers see of the room for attempts, and the parts of a text that groups took.
 use Rattle.std.specs.Prelude.{ℕ, ◌≤◌}
 use Rattle.pattern_defs.specs.declared.outcomes.Place.{Place}
 use Rattle.pattern_defs.specs.Attempt.{Captures}

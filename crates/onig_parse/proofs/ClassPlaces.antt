@@ -7,7 +7,7 @@ use Rattle.syntax_defs.specs.declared.class_part.ClassPart.TheVariants.{End, Clo
 use Rattle.syntax_defs.specs.Reading.{Fault, Read}
 use Rattle.syntax_defs.specs.Sights.{begins_with}
 use Rattle.syntax_defs.specs.Classes.{SetReader, Sides, no_members, with_member, next_side, bracket_at, member_at, part_at, by_part, members_at, class_body_at, class_within}
-use Rattle.onig_parse.specs.ReadingLaws.{MembersSuffice}
+use Rattle.onig_parse.specs.ReadingLaws.{EachMemberTakesACharacter, EachClassTakesACharacter, MembersSuffice}
 use Rattle.onig_parse.proofs.PlaceLemmas.{Within-bind, bind_same, Onward, ReadsOn}
 use Rattle.onig_parse.proofs.MemberPlaces.{member_at-on}
 
@@ -112,6 +112,16 @@ members_at-same nested fold first (suc most) more sides begin rest takes h =
     let next : suc most + more ≡ suc (most + more) = omega arith in
     rw next (by_part-same (members_at nested fold false most) (members_at nested fold false (most + more)) nested fold sides begin rest (part_at first rest)
     (λ sides place left less. members_at-same nested fold false most more sides place left takes (omega arith)) takes (part_at-inside first rest))
+
+pub each_member_takes_a_character : EachMemberTakesACharacter
+each_member_takes_a_character fold place rest x e =
+    let onward : Onward place (place + length rest) x = subst (ReadsOn place (place + length rest)) e (member_at-on place (place + length rest) fold rest refl) in
+    (let on = onward.on in let left = onward.left in omega arith)
+
+pub each_class_takes_a_character : EachClassTakesACharacter
+each_class_takes_a_character levels fold place rest x some e =
+    let onward : Onward place (place + length rest) x = subst (ReadsOn place (place + length rest)) e (class_within-on levels fold place rest some) in
+    (let on = onward.on in let left = onward.left in omega arith)
 
 pub members_suffice : MembersSuffice
 members_suffice levels most more fold first sides place rest h =

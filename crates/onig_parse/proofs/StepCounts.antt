@@ -7,7 +7,7 @@ use Rattle.syntax_defs.specs.declared.items.Item.TheVariants.{One, At, Choice, G
 use Rattle.syntax_defs.specs.Reading.{Fault}
 use Rattle.syntax_defs.specs.Sights.{sight_at}
 use Rattle.syntax_defs.specs.PatternSyntax.{Seen, Body, Stepped, BodyReader, rest_of, step_by, step, after_step, steps, body_at}
-use Rattle.onig_parse.specs.ReadingLaws.{StepsSuffice}
+use Rattle.onig_parse.specs.ReadingLaws.{EachStepTakesACharacter, StepsSuffice}
 use Rattle.onig_parse.proofs.PlaceLemmas.{Within, bind_same}
 use Rattle.onig_parse.proofs.PartPlaces.{Extent, IsPlaced, ArePlaced, ListsPlaced, PlacedSeen, PlacedStep, GoesOn}
 use Rattle.onig_parse.proofs.GroupPlaces.{KeepsPlaces}
@@ -79,6 +79,13 @@ steps-same end go (suc count) more levels options b s keeps whole h =
     after : (goes : Bool) (b : Body) (s : Seen) → FewerLeft end count goes s → ((length s.text ≡ end) × (length (rest_of s) < count) → steps go count levels options b s ≡ steps go (count + more) levels options b s) → after_step (steps go count levels options) goes b s ≡ after_step (steps go (count + more) levels options) goes b s
     after true b s left same = same left
     after false b s left same = refl
+
+pub each_step_takes_a_character : EachStepTakesACharacter
+each_step_takes_a_character levels options b s r e more =
+    let few : FewerLeft (length s.text) (length (rest_of s)) r.more r.seen =
+    subst (Within (length s.text) (λ r. FewerLeft (length s.text) (length (rest_of s)) r.more r.seen)) e
+    (step-fewer (length s.text) (body_at levels) (length (rest_of s)) levels options b s (body_at-placed (any_places (length s.text)) levels) refl (omega arith)) in
+    (subst (λ goes. FewerLeft (length s.text) (length (rest_of s)) goes r.seen) more few).1
 
 pub steps_suffice : StepsSuffice
 steps_suffice levels count more options b s h =

@@ -20,7 +20,8 @@ pub record IsSingle (text : List ℕ) (at : ℕ) (options : Options) (forms : �
   pub depth : forms ≤ most_levels
   pub read : IsRead (single_at options forms at (drop at text))
 
--- the item names only lists with numbers below n, and groups from 1 to the number of groups
+-- The item names only lists with numbers below n, and groups from 1 to the number of groups. A back reference may name
+-- any: the whole text shows whether it is there.
 abbrev pub IsItem : List ℕ → ℕ → ℕ → Item → Type 0
 IsItem text n groups (One at options depth) = IsSingle text at options depth
 IsItem text n groups (At anchor) = Unit {0}

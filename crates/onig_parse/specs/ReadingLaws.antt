@@ -1,15 +1,15 @@
 -- Laws of reading a pattern text: what a fault tells of its text, that no reading stops for want of steps, and what a
 -- text without signs is.
-use Rattle.std.specs.Prelude.{◌≡◌, ◌⊎◌, ℕ, ◌+◌, ◌<◌, ◌≤◌, ◌==◌, List, [], ◌∷◌, codes, length, drop, get_or, Bool, false, Ok, Err}
+use Rattle.std.specs.Prelude.{◌≡◌, ◌⊎◌, ℕ, ◌+◌, ◌<◌, ◌≤◌, ◌==◌, List, [], ◌∷◌, codes, length, drop, get_or, Bool, true, false, Ok, Err}
 use Rattle.std.specs.List.{list_any}
 use Rattle.syntax_defs.specs.declared.items.Options.{Options}
 use Rattle.syntax_defs.specs.declared.items.Item.{Item}
 use Rattle.syntax_defs.specs.declared.items.Item.TheVariants.{One}
 use Rattle.syntax_defs.specs.Limits.{most_pattern_chars, most_levels, most_repeats}
-use Rattle.syntax_defs.specs.Reading.{Fault, Syntax, LeftOut, TooDeep, TooLong}
-use Rattle.syntax_defs.specs.Classes.{Sides, is_char_folded, class_within, members_at}
+use Rattle.syntax_defs.specs.Reading.{Fault, Syntax, LeftOut, TooDeep, TooLong, Read}
+use Rattle.syntax_defs.specs.Classes.{Sides, is_char_folded, member_at, class_within, members_at}
 use Rattle.syntax_defs.specs.Singles.{single_at}
-use Rattle.syntax_defs.specs.PatternSyntax.{Seen, Body, Parsed, rest_of, steps, body_at, no_options}
+use Rattle.syntax_defs.specs.PatternSyntax.{Seen, Body, Stepped, Parsed, rest_of, step, steps, body_at, no_options}
 use Rattle.syntax_defs.specs.Lengths.{read_pattern}
 
 -- What a fault tells of a text of so many characters: its place is one of the text or the end, its depth one above a
@@ -23,13 +23,28 @@ FitsText end (TooLong count) = (count ≡ end) × (most_pattern_chars < count)
 abbrev pub EachFaultFitsItsText : Type 0
 EachFaultFitsItsText = (text : List ℕ) (fault : Fault) → read_pattern text ≡ Err fault → FitsText (length text) fault
 
--- more steps than characters that are left are enough: with any more the same is read
+-- a step behind which the body goes on has taken a character
+abbrev pub EachStepTakesACharacter : Type 0
+EachStepTakesACharacter =
+    (levels : ℕ) (options : Options) (b : Body) (s : Seen) (r : Stepped) → step (body_at levels) levels options b s ≡ Ok r →
+    r.more ≡ true → length (rest_of r.seen) < length (rest_of s)
+
+-- so more steps than characters that are left are enough: with any more the same is read
 abbrev pub StepsSuffice : Type 0
 StepsSuffice =
     (levels count more : ℕ) (options : Options) (b : Body) (s : Seen) → length (rest_of s) < count →
     steps (body_at levels) count levels options b s ≡ steps (body_at levels) (count + more) levels options b s
 
--- the same of the members of a class
+-- the same of the members of a class, one of which may be a class
+abbrev pub EachMemberTakesACharacter : Type 0
+EachMemberTakesACharacter =
+    (fold : Bool) (place : ℕ) (rest : List ℕ) (x : Read (ℕ → Bool)) → member_at fold place rest ≡ Ok x → length x.rest < length rest
+
+abbrev pub EachClassTakesACharacter : Type 0
+EachClassTakesACharacter =
+    (levels : ℕ) (fold : Bool) (place : ℕ) (rest : List ℕ) (x : Read (ℕ → Bool)) → 0 < length rest →
+    class_within levels fold place rest ≡ Ok x → length x.rest < length rest
+
 abbrev pub MembersSuffice : Type 0
 MembersSuffice =
     (levels most more : ℕ) (fold first : Bool) (sides : Sides) (place : ℕ) (rest : List ℕ) → length rest < most →

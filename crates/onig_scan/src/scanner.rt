@@ -108,7 +108,7 @@ impl Scanner {
         requires room { All (λ tree. tree.groups ≤ work.old.room) self.now }
         ensures found { result ≡ first_match self.now text.now from flags work.old.budget }
         ensures work { work.new ≡ record work.old { hit = captures_after self.now text.now from flags work.old.budget work.old.hit } }
-        // the pattern that is named is one of these, and the place that is named is within the text
+        // the pattern that is named is one of these, and the place that is named lies from `from` to the text's end
         ensures names { IsAmong (length self.now) from (length text.now) result }
         ensures groups { IfAt result (λ index. IsSomeAnd (slice_get self.now index)
             (λ tree. length work.new.hit ≡ tree.groups + 1)) }

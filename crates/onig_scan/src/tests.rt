@@ -225,7 +225,7 @@ fn plain_patterns_answer_as_their_table_says(rt: HostRuntime) -> Result<(), Fail
 }
 
 // The same of lookaround, atomic groups, back references and anchors. A back reference inside its own group answers
-// as in Perl. Repeats of anchors and looks, and lookbehinds at the limit of their length, stand last: these answers
+// as in Perl. Repeats of anchors and lookaround, and lookbehinds at the limit of their length, stand last: these answers
 // are this project's own.
 const NESTED: &str = "\
     (?=a)a¦a¦0¦1000¦A-¦0-1¶\

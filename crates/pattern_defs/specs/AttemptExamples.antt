@@ -142,10 +142,10 @@ unfolding go_on
 a_negative_lookahead_restores_captures = refl
 
 -- `(?=)`: one visit for the node, one for the empty list in it, one for the rest
-pub a_nested_run_has_visits_of_its_own :
+pub a_nested_run_shares_the_budget :
     map (attempt (plain ([] ∷ (Ahead (id 0) true ∷ []) ∷ []) 1) [] 0 flags) (3 ∷ 2 ∷ []) ≡ Hit 0 (place 0 0 ∷ []) 0 ∷ Spent ∷ []
 unfolding go_on
-a_nested_run_has_visits_of_its_own = refl
+a_nested_run_shares_the_budget = refl
 
 -- `(?<=ab|c)c` and `(?<!ab|c)c`
 abbrev pub behind : Bool → Tree

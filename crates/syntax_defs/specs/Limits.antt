@@ -5,7 +5,7 @@ use Rattle.std.specs.Prelude.{ℕ}
 abbrev pub most_pattern_chars : ℕ
 most_pattern_chars = 65536
 
--- groups and classes, one in another
+-- forms in parentheses and classes, one in another
 abbrev pub most_levels : ℕ
 most_levels = 100
 

@@ -34,9 +34,9 @@ parsed lists top groups = Ok (record { lists = lists; top = id top; groups = gro
 abbrev pub list_count : Result Parsed Fault → Option ℕ
 list_count read = option_map (λ p. length p.lists) (result_ok read)
 
-pub an_open_group_ends_with_the_text : read_pattern (codes "a(") ≡ Err (Syntax 2)
+pub an_open_group_is_refused_at_the_end : read_pattern (codes "a(") ≡ Err (Syntax 2)
 unfolding Rattle.syntax_defs.specs.PatternSyntax.body_at Rattle.syntax_defs.specs.PatternSyntax.steps
-an_open_group_ends_with_the_text = refl
+an_open_group_is_refused_at_the_end = refl
 
 pub a_repeat_wants_an_item : read_pattern (codes "*a") ≡ Err (Syntax 0)
 unfolding Rattle.syntax_defs.specs.PatternSyntax.body_at Rattle.syntax_defs.specs.PatternSyntax.steps
@@ -162,14 +162,15 @@ pub an_interval_may_begin_with_a_comma : read_pattern (codes "a{,2}") ≡ parsed
 unfolding Rattle.syntax_defs.specs.PatternSyntax.body_at Rattle.syntax_defs.specs.PatternSyntax.steps
 an_interval_may_begin_with_a_comma = refl
 
-pub a_lazy_repeat : read_pattern (codes "a{1,2}?") ≡ parsed ((single 0 ∷ []) ∷ (Repeat (id 0) 1 (Some 2) false ∷ []) ∷ []) 1 0
+pub an_interval_may_be_lazy : read_pattern (codes "a{1,2}?") ≡ parsed ((single 0 ∷ []) ∷ (Repeat (id 0) 1 (Some 2) false ∷ []) ∷ []) 1 0
 unfolding Rattle.syntax_defs.specs.PatternSyntax.body_at Rattle.syntax_defs.specs.PatternSyntax.steps
-a_lazy_repeat = refl
+an_interval_may_be_lazy = refl
 
 pub a_count_is_not_lazy_but_optional : read_pattern (codes "a{2}?") ≡ parsed ((single 0 ∷ []) ∷ (Repeat (id 0) 2 (Some 2) true ∷ []) ∷ (Repeat (id 1) 0 (Some 1) true ∷ []) ∷ []) 2 0
 unfolding Rattle.syntax_defs.specs.PatternSyntax.body_at Rattle.syntax_defs.specs.PatternSyntax.steps
 a_count_is_not_lazy_but_optional = refl
 
+-- `a` and `bc` are alternatives of what the options hold for, so of a form inside, and differ in length
 pub options_hold_for_all_alternatives_behind_them : read_pattern (codes "(?<=(?i)a|bc)x") ≡ Err (LeftOut 0)
 unfolding Rattle.syntax_defs.specs.PatternSyntax.body_at Rattle.syntax_defs.specs.PatternSyntax.steps
 options_hold_for_all_alternatives_behind_them = refl
@@ -218,13 +219,13 @@ pub an_unknown_escape_is_left_out : read_pattern (codes "a\\q") ≡ Err (LeftOut
 unfolding Rattle.syntax_defs.specs.PatternSyntax.body_at Rattle.syntax_defs.specs.PatternSyntax.steps Rattle.syntax_defs.specs.Escapes.behind_backslash Rattle.syntax_defs.specs.Escapes.escape_by
 an_unknown_escape_is_left_out = refl
 
-pub a_backslash_at_the_end : read_pattern (codes "a\\") ≡ Err (Syntax 1)
+pub a_backslash_at_the_end_is_refused_at_its_place : read_pattern (codes "a\\") ≡ Err (Syntax 1)
 unfolding Rattle.syntax_defs.specs.PatternSyntax.body_at Rattle.syntax_defs.specs.PatternSyntax.steps Rattle.syntax_defs.specs.Escapes.behind_backslash Rattle.syntax_defs.specs.Escapes.escape_by
-a_backslash_at_the_end = refl
+a_backslash_at_the_end_is_refused_at_its_place = refl
 
-pub a_word_edge_in_a_group : read_pattern (codes "(?:\\b)") ≡ parsed ((At anchors.WordEdge ∷ []) ∷ []) 0 0
+pub a_word_edge_may_stand_in_a_group : read_pattern (codes "(?:\\b)") ≡ parsed ((At anchors.WordEdge ∷ []) ∷ []) 0 0
 unfolding Rattle.syntax_defs.specs.PatternSyntax.body_at Rattle.syntax_defs.specs.PatternSyntax.steps
-a_word_edge_in_a_group = refl
+a_word_edge_may_stand_in_a_group = refl
 
 pub anchors_are_one_node_each : read_pattern (codes "^\\z$") ≡ parsed ((At anchors.LineStart ∷ At anchors.End ∷ At anchors.LineEnd ∷ []) ∷ []) 0 0
 unfolding Rattle.syntax_defs.specs.PatternSyntax.body_at Rattle.syntax_defs.specs.PatternSyntax.steps

@@ -1,7 +1,7 @@
 /// The most characters of a pattern text.
 pub const MOST_PATTERN_CHARS: usize = 65_536;
 
-/// The most groups and classes, one in another.
+/// The most forms in parentheses and classes, one in another.
 pub const MOST_LEVELS: u32 = 100;
 
 /// The most repeats on one item.
