@@ -50,3 +50,9 @@ impl<T: Drop> Share for Shared<T> {
         })
     }
 }
+
+impl Share for u32 {
+    fn share(&self) -> Result<Self, AllocError> {
+        Ok(*self)
+    }
+}

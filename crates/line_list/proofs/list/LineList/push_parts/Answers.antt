@@ -1,5 +1,6 @@
 use Rattle.std.proofs.Common.{◌≡◌, ℕ, ◌+◌, ◌-◌, ◌<◌, ◌≤◌, List, length, take, get_or, ap, ◌∙◌, refl, min, arith}
 use Rattle.std.proofs.lemmas.List.{length-append}
+use Rattle.line_list.specs.declared.pieces.TheConstants.{MOST_IN_PIECE}
 use Rattle.line_list.specs.declared.pieces.Part.{Part}
 use Rattle.line_list.specs.Parts.{items_of, part_items}
 use Rattle.line_list.proofs.Laid.{start_read, few_read, items_of-take_more, run_added, ends_of, ends_next}
@@ -14,7 +15,7 @@ record IsHere {X : Type 0} (ps : List (Part X)) (n at count : ℕ) (p : Part X) 
   low : p.start ≤ at
   high : at < p.start + count
   next : length (items_of (take (n + 1) ps)) ≡ p.start + count
-  few : count ≤ 512
+  few : count ≤ MOST_IN_PIECE
   counted : length (part_items p) ≡ count
 
 here : (g : _) (c : After-len g) → IsHere c.args.parts.now c.loop-at.n c.loop-at.at c.len.result c.index-parts-n.result
@@ -29,7 +30,8 @@ here g c =
     let few = few_read ps n p c.requires.laid there c.index-parts-n.is in
     let low = c.loop-at.invariant.begins c.loop-at-test.true in
     let high = c.loop-at.invariant.ends c.loop-at-test.true in
-    let next = ap length (items_of-take_more ps n p there c.index-parts-n.is) ∙ length-append (items_of (take n ps)) (part_items p) in
+    let next = ap length (items_of-take_more ps n p there c.index-parts-n.is)
+    ∙ length-append (items_of (take n ps)) (part_items p) in
     let counted : length (part_items p) ≡ length items.items = refl in
     record {
       there = there;
@@ -65,7 +67,8 @@ push_part-requires-clause-few g c =
 pub loop-at-smaller : goal.loop-at-smaller
 loop-at-smaller g c =
     let h = here g ((goal.at.loop-at-smaller g c).After-len) in
-    let less : (c.args.from + c.args.count) - (c.index-parts-n.result.start + c.min-last.result) < (c.args.from + c.args.count) - c.loop-at.at =
+    let less : (c.args.from + c.args.count) - (c.index-parts-n.result.start + c.min-last.result) < (c.args.from
+    + c.args.count) - c.loop-at.at =
     omega (arith, h.low, h.high, c.min-last.ensures, c.loop-at-test.true) in
     less
 
@@ -78,14 +81,18 @@ loop-at-preserved g c =
     let end : ℕ = c.args.from + c.args.count in
     let h = here g ((goal.at.loop-at-preserved g c).After-len) in
     let l : last ≡ min c.len.result (end - p.start) = c.min-last.ensures in
-    let whole : p.start + last < end → p.start + last ≡ length (items_of (take (n + 1) ps)) = λ b. omega (arith, h.next, l) in
-    let there : p.start + last < end → n + 1 < length ps = λ b. ends_of ps (n + 1) (omega (arith, whole b, c.requires.within)) in
+    let whole : p.start + last < end → p.start + last ≡ length (items_of (take (n + 1) ps)) =
+    λ b. omega (arith, h.next, l) in
+    let there : p.start + last < end → n + 1 < length ps =
+    λ b. ends_of ps (n + 1) (omega (arith, whole b, c.requires.within)) in
     record {
       rises = omega (arith, c.loop-at.invariant.rises, h.low, h.high, l, c.loop-at-test.true);
       within = omega (arith, l, h.low, c.loop-at-test.true);
       there = there;
       begins = λ b. omega (arith, whole b);
       ends = λ b. omega (arith, whole b, ends_next ps (n + 1) p c.requires.laid (there b));
-      added = run_added ps n c.args.from c.loop-at.at last p c.args.self.now c.loop-at.self c.push_part.new.self h.there h.is h.starts h.low c.loop-at.invariant.rises
-          (omega (arith, h.high, l, c.loop-at-test.true)) (omega (arith, h.counted, l)) c.loop-at.invariant.added c.in_ok-push_part.ensures;
+      added = run_added ps n c.args.from c.loop-at.at last p c.args.self.now c.loop-at.self c.push_part.new.self
+          h.there h.is h.starts h.low c.loop-at.invariant.rises
+          (omega (arith, h.high, l, c.loop-at-test.true)) (omega (arith, h.counted, l)) c.loop-at.invariant.added
+          c.in_ok-push_part.ensures;
     }

@@ -1,18 +1,29 @@
 use Rattle.std.proofs.Common.{◌≡◌, ℕ, ◌+◌, ◌-◌, ◌<◌, ◌≤◌, ◌++◌, length, get_or, ap, sym, ◌∙◌, refl, arith, set, ◌^◌}
 use Rattle.std.proofs.lemmas.List.{length-append, get_or_default}
+use Rattle.line_list.specs.declared.pieces.TheConstants.{MOST_IN_PIECE}
 use Rattle.line_list.proofs.Full.{AreFull-set, AreFull-push}
 use Rattle.line_list.specs.Parts.{items_of, part_items}
 use Rattle.line_list.specs.declared.pieces.Part.{Part}
 use Rattle.line_list.proofs.Laid.{grown, grown-items, pushed, items_of-push}
 use Rattle.line_list.proofs.pieces.Pieces.add_piece.Goals as goal
-use Rattle.line_list.proofs.pieces.Pieces.add_piece.Goals.{In_ok-both-2, then-pieces-gt0+else-len-count-le-MOST_IN_PIECE, else-pieces-gt0}
+use Rattle.line_list.proofs.pieces.Pieces.add_piece.Goals.{In_ok-both-2}
+use Rattle.line_list.proofs.pieces.Pieces.add_piece.Goals.{then-pieces-gt0+else-len-count-le-MOST_IN_PIECE}
+use Rattle.line_list.proofs.pieces.Pieces.add_piece.Goals.{else-pieces-gt0}
 
-both : (g : _) (c : In_ok-both-2 g) → c.in_ok-both-2.both.value.items ≡ c.index-last.result.now.items.value.items ++ c.args.items.value.items
+both : (g : _) (c : In_ok-both-2 g) → c.in_ok-both-2.both.value.items
+    ≡ c.index-last.result.now.items.value.items ++ c.args.items.value.items
 both g c =
     ap (λ v. v.items) c.in_ok-both-2.ensures.ok
-    ∙ (rw (c.as_slice.ensures.value, c.as_slice-then-len-count-le-MOST_IN_PIECE.ensures.value, c.deref-then-len-count-le-MOST_IN_PIECE.ensures, c.deref-then-len-count-le-MOST_IN_PIECE-2.ensures) at c.in_ok-both.ensures)
+    ∙ (rw (
+      c.as_slice.ensures.value,
+      c.as_slice-then-len-count-le-MOST_IN_PIECE.ensures.value,
+      c.deref-then-len-count-le-MOST_IN_PIECE.ensures,
+      c.deref-then-len-count-le-MOST_IN_PIECE-2.ensures,
+    ) at c.in_ok-both.ensures)
 
-count : (g : _) (c : In_ok-both-2 g) → (c.len-count.result ≡ length (c.args.items.value.items)) × (c.len-pieces.result ≡ length c.self.inside.parts.items) × (length (c.in_ok-both-2.both.value.items) ≤ 512)
+count : (g : _) (c : In_ok-both-2 g) → (c.len-count.result ≡ length (c.args.items.value.items))
+    × (c.len-pieces.result ≡ length c.self.inside.parts.items)
+    × (length (c.in_ok-both-2.both.value.items) ≤ MOST_IN_PIECE)
 count g c =
     let ps = c.self.inside.parts in
     let old = c.index-last.result.now.items.value in
@@ -40,7 +51,8 @@ invariant_of-self g c =
     let last = get_or_default ps i q p (omega arith) ∙ sym c.index-last.ensures in
     let grows : length (part_items (get_or ps i q)) ≤ length (part_items q) =
     rw last (omega (arith, ap length same, length-append p.items.value.items items)) in
-    let some : 0 < length (c.in_ok-both-2.both.value.items) = omega (arith, ap length same, length-append (p.items.value.items) (items), c.requires.some) in (
+    let some : 0 < length (c.in_ok-both-2.both.value.items) =
+    omega (arith, ap length same, length-append (p.items.value.items) (items), c.requires.some) in (
       grown ps i p q c.self.invariant.0 at_end c.index-last.ensures refl some (n.2),
       omega (arith, c.self.invariant.1, n.0, ap length longer, length-append (items_of ps) (items)),
       omega (arith, c.self.invariant.1, n.0, ap length c.self.view_is, c.requires.fits),
@@ -53,7 +65,8 @@ returns-then-len-count-le-MOST_IN_PIECE-clause-added g c =
     let ps = c.self.inside.parts.items in
     let items = c.args.items.value.items in
     let at_end : (c.len-pieces.result - 1) + 1 ≡ length ps = omega (arith, (count g start).1, c.if-pieces-gt0.true) in
-    grown-items ps (c.len-pieces.result - 1) c.index-last.result.now _ (items) at_end c.index-last.ensures (both g start)
+    grown-items ps (c.len-pieces.result - 1) c.index-last.result.now _ (items) at_end c.index-last.ensures
+    (both g start)
     ∙ ap (λ xs. xs ++ items) c.self.view_is
 
 pub invariant_of-self-2 : goal.invariant_of-self-2
@@ -63,18 +76,22 @@ invariant_of-self-2 g c =
     let n : c.len-count.result ≡ length items.items = (rw c.deref.ensures at c.len-count.ensures) ∙ items.ok.0 in
     let pieces : c.len-pieces.result ≡ length ps = c.len-pieces.ensures ∙ c.self.inside.parts.ok.0 in
     let q : Part g.row.T.Denot = record { start = c.self.inside.len; items = c.args.items } in
-    let past : (i : ℕ) → i + 1 ≡ length ps → 512 < length (part_items (get_or ps i q)) + length items.items = λ i e.
+    let past : (i : ℕ) → i + 1 ≡ length ps → MOST_IN_PIECE < length (part_items (get_or ps i q)) + length
+    items.items = λ i e.
     elim c.if-pieces-gt0.branch [
       | then-pieces-gt0+else-len-count-le-MOST_IN_PIECE w ↦
           let old = w.index-last.result.now.items.value in
           let b : w.len.result ≡ length old.items = (rw w.deref-then-pieces-gt0.ensures at w.len.ensures) ∙ old.ok.0 in
           let at_end : c.len-pieces.result - 1 ≡ i = omega (arith, e, pieces) in
-          let is = ap (λ k. get_or ps k q) (sym at_end) ∙ get_or_default ps (c.len-pieces.result - 1) q w.index-last.result.now (omega (arith, e, pieces)) ∙ sym w.index-last.ensures in
+          let is = ap (λ k. get_or ps k q) (sym at_end)
+          ∙ get_or_default ps (c.len-pieces.result - 1) q w.index-last.result.now (omega (arith, e, pieces))
+          ∙ sym w.index-last.ensures in
           rw is (omega (arith, b, n, w.if-len-count-le-MOST_IN_PIECE.false))
       | else-pieces-gt0 w ↦ absurd (omega (arith, e, pieces, w.if-pieces-gt0.false))
     ] in
     rw c.in_ok-push.ensures.items (
-      pushed ps _ c.self.invariant.0 c.self.invariant.1 (omega (arith, c.requires.some)) (omega (arith, c.requires.few)),
+      pushed ps _ c.self.invariant.0 c.self.invariant.1 (omega (arith, c.requires.some))
+          (omega (arith, c.requires.few)),
       rw (items_of-push ps) (omega (arith, n, c.self.invariant.1, length-append (items_of ps) (items.items))),
       omega (arith, n, c.self.invariant.1, ap length c.self.view_is, c.requires.fits),
       AreFull-push ps q c.self.invariant.3 (λ i e. past i e),
@@ -87,7 +104,8 @@ returns-then-len-count-le-MOST_IN_PIECE-clause-few g c =
     let items = c.args.items.value.items in
     let q : Part g.row.T.Denot = record { start = c.index-last.result.now.start; items = c.in_ok-both-2.both } in
     let at_end : (c.len-pieces.result - 1) + 1 ≡ length ps = omega (arith, (count g start).1, c.if-pieces-gt0.true) in
-    let longer = grown-items ps (c.len-pieces.result - 1) c.index-last.result.now q (items) at_end c.index-last.ensures (both g start) in
+    let longer = grown-items ps (c.len-pieces.result - 1) c.index-last.result.now q (items) at_end
+    c.index-last.ensures (both g start) in
     let fits : length (items_of (set ps (c.len-pieces.result - 1) q)) ≤ 2 ^ 31 =
     omega (arith, ap length longer, length-append (items_of ps) (items), ap length c.self.view_is, c.requires.fits) in
     fits

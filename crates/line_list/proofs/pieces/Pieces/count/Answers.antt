@@ -4,4 +4,10 @@ use Rattle.line_list.proofs.pieces.Pieces.count.Goals as goal
 
 pub returns : goal.returns
 returns g c =
-    omega (arith, few_parts c.self.inside.parts.items c.self.invariant.3, ap length c.self.view_is, c.len.ensures, c.self.inside.parts.ok.0)
+    omega (
+      arith,
+      few_parts c.self.inside.parts.items c.self.invariant.3,
+      ap length c.self.view_is,
+      c.len.ensures,
+      c.self.inside.parts.ok.0,
+    )
