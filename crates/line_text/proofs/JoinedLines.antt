@@ -1,7 +1,7 @@
 -- The lines of joined lines are those lines again.
-use Rattle.std.proofs.Common.{◌≡◌, ℕ, zero, suc, ◌<◌, ◌≤◌, List, [], ◌∷◌, ◌++◌, length, get_or, take, drop, refl, ap, sym, ◌∙◌, arith}
+use Rattle.std.proofs.Common.{◌≡◌, ℕ, zero, suc, ◌<◌, ◌≤◌, List, [], ◌∷◌, ◌++◌, length, get_or, take, drop, refl, ap, sym, ◌∙◌, arith, ◌+◌, ◌-◌}
 use Rattle.std.proofs.lemmas.Bool.{ne_eqb}
-use Rattle.std.proofs.lemmas.List.{length-append, append-nil, append_assoc}
+use Rattle.std.proofs.lemmas.List.{length-append, length-drop, append-nil, append_assoc, take_all, take_more, get_or-drop}
 use Rattle.text_defs.specs.Text.{lines_of, line_in, onto_first}
 use Rattle.line_text.specs.Lines.{joined, behind_lf, ended, IsLine, AreLines}
 
@@ -51,6 +51,12 @@ pub ended-push : (lines : List (List ℕ)) (line : List ℕ) → ended (lines ++
 ended-push [] line = refl
 ended-push (first ∷ lines) line = ap (λ (cs : List ℕ). first ++ 10 ∷ cs) (ended-push lines line) ∙ grind (arith, append_assoc)
 
+-- two runs of lines
+pub ended-append : (xs ys : List (List ℕ)) → ended (xs ++ ys) ≡ ended xs ++ ended ys
+ended-append [] ys = refl
+ended-append (line ∷ xs) ys =
+    ap (λ (cs : List ℕ). line ++ 10 ∷ cs) (ended-append xs ys) ∙ sym (append_assoc line (10 ∷ ended xs) (ended ys))
+
 behind_lf-push : (lines : List (List ℕ)) (line : List ℕ) → behind_lf (lines ++ line ∷ []) ≡ 10 ∷ (ended lines ++ line)
 behind_lf-push [] line = ap (λ (cs : List ℕ). 10 ∷ cs) (append-nil line)
 behind_lf-push (first ∷ lines) line = rw (behind_lf-push lines line) (ap (λ (cs : List ℕ). 10 ∷ cs) (sym (append_assoc first (10 ∷ ended lines) line)))
@@ -69,3 +75,29 @@ pub IsLine-take : (n : ℕ) (line : List ℕ) → IsLine line → IsLine (take n
 IsLine-take zero line h = tt
 IsLine-take (suc n) [] h = tt
 IsLine-take (suc n) (c ∷ cs) h = (h.0, IsLine-take n cs h.1)
+
+-- a run of whole lines was added behind an LF, where `rest` is what stands behind the last LF
+pub run_added : (done all run : List (List ℕ)) (rest old : List ℕ) → all ≡ done ++ run → rest ≡ [] → ended done ++ rest ≡ old
+    → ended all ++ rest ≡ old ++ ended run
+run_added done all run rest old is none was =
+    let before : old ≡ ended done = sym was ∙ ap (λ (cs : List ℕ). ended done ++ cs) none ∙ append-nil (ended done) in
+    ap (λ (cs : List ℕ). ended all ++ cs) none ∙ append-nil (ended all) ∙ ap ended is ∙ ended-append done run
+    ∙ ap (λ (cs : List ℕ). cs ++ ended run) (sym before)
+
+-- one whole line was added, and its end
+pub line_added : (lines : List (List ℕ)) (from n len : ℕ) (line old before part after : List ℕ) → from + n < length lines
+    → line ≡ get_or lines (from + n) line → len ≡ length line → before ≡ old ++ ended (take n (drop from lines))
+    → part ≡ before ++ take (len - 0) (drop 0 line) → after ≡ part ++ 10 ∷ []
+    → after ≡ old ++ ended (take (n + 1) (drop from lines))
+line_added lines from n len line old before part after there is counted was copied ends =
+    let front = take n (drop from lines) in
+    let whole : take (len - 0) line ≡ line = take_all (len - 0) line (omega arith) in
+    let inside : n < length (drop from lines) = omega (arith, length-drop from lines) in
+    let next : get_or (drop from lines) n line ≡ line = get_or-drop from lines n line ∙ sym is in
+    let more : take (n + 1) (drop from lines) ≡ front ++ line ∷ [] =
+    take_more (drop from lines) n line inside ∙ ap (λ (x : List ℕ). front ++ x ∷ []) next in
+    let sum : ended (take (n + 1) (drop from lines)) ≡ (ended front ++ line) ++ 10 ∷ [] = ap ended more ∙ ended-push front line in
+    let left : part ≡ (old ++ ended front) ++ line =
+    copied ∙ ap (λ (cs : List ℕ). before ++ cs) whole ∙ ap (λ (cs : List ℕ). cs ++ line) was in
+    ends ∙ ap (λ (cs : List ℕ). cs ++ 10 ∷ []) (left ∙ append_assoc old (ended front) line)
+    ∙ append_assoc old (ended front ++ line) (10 ∷ []) ∙ ap (λ (cs : List ℕ). old ++ cs) (sym sum)

@@ -9,7 +9,7 @@ use Rattle.std.proofs.Math.Seq.{take-append-add, drop-append-add}
 use Rattle.text_pos.specs.declared.length.Pos.{Pos}
 use Rattle.text_defs.specs.Text.{lines_of, line_of, line_in, line_count, onto_first}
 use Rattle.text_defs.specs.Place.{holds, is_before}
-use Rattle.line_text.specs.Lines.{joined, behind_lf, AreLines}
+use Rattle.line_text.specs.Lines.{joined, behind_lf, ended, AreLines}
 use Rattle.line_text.proofs.CountedSizes.{line_count-pos}
 use Rattle.line_text.proofs.JoinedLines.{lines_of-append, lines_of-behind, all_onto-cons, line_in-IsLine, IsLine-drop}
 
@@ -188,6 +188,48 @@ pub copied_part : (lines : List (List ℕ)) (n col : ℕ) (to : Pos) (line befor
     → before ++ piece lines n col (start lines to.line + to.col) ≡ whole → after ≡ whole
 copied_part lines n col to line before after whole p e l is_line is_after h =
     is_after ∙ ap (λ (cs : List ℕ). before ++ cs) (rw (is_line) (sym (piece_part lines to.line col to.col p.line l p.col)) ∙ ap (λ (m : ℕ). piece lines m col (start lines to.line + to.col)) (sym e)) ∙ h
+
+-- whole lines, and a part of the one behind them
+pub piece_lines : (lines : List (List ℕ)) (n count to : ℕ) → n + count < length lines → to ≤ length (line_in lines (n + count))
+    → piece lines n 0 (start lines (n + count) + to) ≡ ended (take count (drop n lines)) ++ take to (line_in lines (n + count))
+piece_lines lines n zero to there within =
+    let none : n + 0 ≡ n = omega arith in
+    let part = piece_part lines n 0 to (rw none at there) (omega arith) (rw none at within) in
+    rw none (part ∙ ap (λ (k : ℕ). take k (line_in lines n)) (omega arith))
+piece_lines lines n (suc count) to there within =
+    let end : ℕ = start lines (n + suc count) + to in
+    let next : n + suc count ≡ suc n + count = omega arith in
+    let first = piece_line lines n 0 end (omega arith) (omega arith)
+    (omega (arith, start_mono lines (suc n) (n + suc count) (omega arith))) in
+    let rest = piece_lines lines (suc n) count to (omega arith) (rw next at within) in
+    let line = line_in lines n in
+    let runs : ended (take (suc count) (drop n lines)) ≡ line ++ 10 ∷ ended (take count (drop (suc n) lines)) =
+    ap (λ (ls : List (List ℕ)). ended (take (suc count) ls)) (drop_line lines n (omega arith)) in
+    let last = take to (line_in lines (suc n + count)) in
+    let behind : piece lines (suc n) 0 end ≡ ended (take count (drop (suc n) lines)) ++ last =
+    ap (λ (k : ℕ). piece lines (suc n) 0 (start lines k + to)) next ∙ rest in
+    first ∙ ap (λ (cs : List ℕ). line ++ 10 ∷ cs) behind
+    ∙ sym (append_assoc line (10 ∷ ended (take count (drop (suc n) lines))) last)
+    ∙ ap (λ (cs : List ℕ). cs ++ last) (sym runs)
+    ∙ ap (λ (k : ℕ). ended (take (suc count) (drop n lines)) ++ take to (line_in lines k)) (sym next)
+
+-- the rest of a line, whole lines, and a part of the last line were copied
+pub copied_lines : (lines : List (List ℕ)) (n col len count : ℕ) (to : Pos) (line last before part end run after : List ℕ)
+    → IsPlace lines to → (n + 1) + count ≡ to.line → col ≤ length (line_in lines n) → line ≡ line_in lines n → len ≡ length line
+    → last ≡ line_in lines to.line → part ≡ before ++ take (len - col) (drop col line) → end ≡ part ++ 10 ∷ []
+    → run ≡ end ++ ended (take count (drop (n + 1) lines)) → after ≡ run ++ take (to.col - 0) (drop 0 last)
+    → after ≡ before ++ piece lines n col (start lines to.line + to.col)
+copied_lines lines n col len count to line last before part end run after p at i is_line is_len is_last is_part is_end is_run is_after =
+    let whole = before ++ piece lines n col (start lines to.line + to.col) in
+    let lines_run = ended (take count (drop (n + 1) lines)) in
+    let first : end ++ piece lines (n + 1) 0 (start lines to.line + to.col) ≡ whole =
+    copied_line lines n col len to line before part end whole p (omega arith) i is_line is_len is_part is_end refl in
+    let left : piece lines (n + 1) 0 (start lines to.line + to.col) ≡ lines_run ++ take to.col (line_in lines to.line) =
+    rw (← at) (piece_lines lines (n + 1) count to.col (omega (arith, p.line)) (rw (← at) at p.col)) in
+    let part_of_last : take (to.col - 0) last ≡ take to.col (line_in lines to.line) =
+    ap (λ (k : ℕ). take k last) (omega arith) ∙ ap (take to.col) is_last in
+    is_after ∙ ap (λ (cs : List ℕ). run ++ cs) part_of_last ∙ ap (λ (cs : List ℕ). cs ++ take to.col (line_in lines to.line)) is_run
+    ∙ append_assoc end lines_run (take to.col (line_in lines to.line)) ∙ ap (λ (cs : List ℕ). end ++ cs) (sym left) ∙ first
 
 start_total : (lines : List (List ℕ)) → 0 < length lines → start lines (length lines) ≡ length (joined lines) + 1
 start_total [] h = absurd (omega arith)

@@ -48,3 +48,17 @@ IsPlain-take (suc n) (c ∷ cs) h = (h.0, h.1, IsPlain-take n cs h.2)
 pub IsPlain-cond : (b : Bool) (xs ys : List ℕ) → IsPlain xs → IsPlain ys → IsPlain (cond b (xs ++ ys) xs)
 IsPlain-cond true xs ys h i = IsPlain-append xs ys h i
 IsPlain-cond false xs ys h i = h
+
+pub ArePlain-append : (xs ys : List (List ℕ)) → ArePlain xs → ArePlain ys → ArePlain (xs ++ ys)
+ArePlain-append [] ys h i = i
+ArePlain-append (line ∷ xs) ys h i = (h.0, ArePlain-append xs ys h.1 i)
+
+pub ArePlain-drop : (n : ℕ) (lines : List (List ℕ)) → ArePlain lines → ArePlain (drop n lines)
+ArePlain-drop zero lines h = h
+ArePlain-drop (suc n) [] h = tt
+ArePlain-drop (suc n) (line ∷ lines) h = ArePlain-drop n lines h.1
+
+pub ArePlain-take : (n : ℕ) (lines : List (List ℕ)) → ArePlain lines → ArePlain (take n lines)
+ArePlain-take zero lines h = tt
+ArePlain-take (suc n) [] h = tt
+ArePlain-take (suc n) (line ∷ lines) h = (h.0, ArePlain-take n lines h.1)
