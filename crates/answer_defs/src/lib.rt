@@ -6,5 +6,5 @@ pub mod pair_answer;
 pub mod refusal;
 
 pub use answer::{Answer, BracketRow, MarkAt, Question, Rows};
-pub use pair_answer::{GuideRow, PairRow, Twin};
+pub use pair_answer::{GuideRow, GuideRows, PairRow, PairRows, Twin};
 pub use refusal::Refusal;

@@ -1,5 +1,5 @@
 use crate::answer::MarkAt;
-use text_pos::Span;
+use text_pos::{Items, Span};
 
 /// A pair of brackets: its opener, its closer where it has one, how many brackets are open around it, and how many of
 /// these are of its kind (`own`). The form is this project's own.
@@ -19,6 +19,12 @@ pub struct GuideRow {
     pub column: u32,
     pub level: u32,
 }
+
+/// Pairs in order of their openers.
+pub type PairRows = Items<PairRow>;
+
+/// Guides by line, and in a line by level.
+pub type GuideRows = Items<GuideRow>;
 
 /// Two brackets that are partners, from where each starts to where it ends.
 #[derive(Clone, Copy, Debug, PartialEq, Eq)]

@@ -18,9 +18,13 @@ pub struct Paired {
 }
 
 impl Model for Paired {
+    ghost use Rattle.std.specs.Prelude.{◌<◌, ◌^◌, length};
+
     ghost Value = { List Row };
 
     ghost view = { λ p. p.rows.items };
+
+    ghost invariant = { λ p. length p.rows.items < 2 ^ 32 };
 }
 
 impl Paired {
@@ -41,7 +45,8 @@ impl Paired {
 
     /// The rows, in order of the text.
     pub fn rows(&self) -> &[Row]
-        ensures { result.now ≡ self.now }
+        ensures rows { result.now ≡ self.now }
+        ensures few { length result.now < 2 ^ 32 }
     {
         &self.rows
     }
