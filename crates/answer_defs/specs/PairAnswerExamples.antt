@@ -5,7 +5,6 @@ use Rattle.text_pos.specs.declared.length.Pos.{Pos}
 use Rattle.pairing_defs.specs.declared.Row.{Row}
 use Rattle.pairing_defs.specs.Examples.{rows_at}
 use Rattle.answer_defs.specs.declared.answer.MarkAt.{MarkAt}
-use Rattle.answer_defs.specs.declared.pair_answer.PairRow.{PairRow}
 use Rattle.answer_defs.specs.declared.pair_answer.GuideRow.{GuideRow}
 use Rattle.answer_defs.specs.declared.pair_answer.Twin.{Twin}
 use Rattle.answer_defs.specs.PairAnswers.{match_in, around_in, jump_in, level_in, pairs_in, guides_in, indentation}

@@ -1,10 +1,11 @@
 -- What is answered about the pairs of a text: filters of its rows, or the first or the last row that meets a condition.
 -- The questions and their answers are this project's own; guides are those of VS Code's bracket pair guides.
-use Rattle.std.specs.Prelude.{ℕ, zero, suc, ◌+◌, ◌-◌, ◌*◌, ◌/◌, ◌==◌, List, [], ◌∷◌, length, map, filter, flat_map, reverse, slice_get, min, Bool, true, false, not, ◌&&◌, nat_lt, nat_le, if◌then◌else◌, Option, Some, None, option_and_then}
-use Rattle.std.specs.List.{find, filter_map, range_with_len}
+use Rattle.std.specs.Prelude.{ℕ, suc, ◌+◌, ◌-◌, ◌*◌, ◌/◌, ◌==◌, List, [], ◌∷◌, length, map, filter, flat_map, reverse, slice_get, min, Bool, true, false, not, ◌&&◌, nat_lt, nat_le, if◌then◌else◌, Option, option_and_then}
+use Rattle.std.specs.List.{find, range_with_len}
 use Rattle.std.specs.Option.{option_or, option_map, is_some}
 use Rattle.text_pos.specs.declared.length.Pos.{Pos}
 use Rattle.text_pos.specs.declared.length.Span.{Span}
+use Rattle.text_defs.specs.Text.{line_in}
 use Rattle.text_defs.specs.Place.{is_before}
 use Rattle.pairing_defs.specs.declared.Role.{Role}
 use Rattle.pairing_defs.specs.declared.Role.TheVariants.{Opener, Closer}
@@ -127,13 +128,8 @@ indentation_from tab column (c ∷ cs) =
 abbrev pub indentation : ℕ → List ℕ → ℕ
 indentation tab line = indentation_from tab 0 line
 
--- a line of a text by its number, empty where there is none
-abbrev pub line_or_none : Option (List ℕ) → List ℕ
-line_or_none None = []
-line_or_none (Some line) = line
-
 abbrev pub indentation_of : ℕ → List (List ℕ) → ℕ → ℕ
-indentation_of tab lines n = indentation tab (line_or_none (slice_get lines n))
+indentation_of tab lines n = indentation tab (line_in lines n)
 
 -- whether a line has a guide of a pair: it is behind the line of the opener and not behind that of the closer
 abbrev pub has_guide : ℕ → Row → Bool

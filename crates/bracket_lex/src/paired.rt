@@ -18,13 +18,9 @@ pub struct Paired {
 }
 
 impl Model for Paired {
-    ghost use Rattle.std.specs.Prelude.{◌<◌, ◌^◌, length};
-
     ghost Value = { List Row };
 
     ghost view = { λ p. p.rows.items };
-
-    ghost invariant = { λ p. length p.rows.items < 2 ^ 32 };
 }
 
 impl Paired {
@@ -45,8 +41,7 @@ impl Paired {
 
     /// The rows, in order of the text.
     pub fn rows(&self) -> &[Row]
-        ensures rows { result.now ≡ self.now }
-        ensures few { length result.now < 2 ^ 32 }
+        ensures { result.now ≡ self.now }
     {
         &self.rows
     }

@@ -5,10 +5,12 @@ ghost use Rattle.std.specs.Prelude.{◌≡◌, IfOk};
 ghost use Rattle.answer_defs.specs.Answers.{bracket_row, brackets_in, is_in_lines};
 
 pub mod places;
+pub mod ranges;
 
 pub use answer_defs::{Answer, BracketRow, MarkAt, Question, Rows};
 use bracket_lex::{Paired, Row};
 pub use places::{around, jump, level_at, match_at};
+pub use ranges::{guides, pairs};
 use std::alloc::{AllocError, Global};
 
 /// The brackets of the lines `from` to `to`, in order of the text.

@@ -1,7 +1,7 @@
 //! Answers about a place: the bracket there, the pairs around it, and where to jump.
 ghost use Rattle.std.specs.Prelude.{◌≡◌, ◌<◌, ◌^◌, length, option_and_then};
 ghost use Rattle.std.specs.List.{find};
-ghost use Rattle.std.specs.Option.{option_map, option_or};
+ghost use Rattle.std.specs.Option.{option_copied, option_map, option_or};
 ghost use Rattle.answer_defs.specs.PairAnswers.{stands_at, ends_at, touched, partner_of, span_of, end_of, twin, twin_of, match_in, is_opener, encloses, encloses_closed, level_in, around_in, find_last, starts_from, next_start, jump_in};
 ghost use Rattle.text_defs.specs.Place.{is_before};
 
@@ -43,6 +43,7 @@ pub fn jump(rows: &Paired, at: Pos) -> Option<Pos>
 
 /// How many pairs are open at a place, with those that nothing closes.
 pub fn level_at(rows: &Paired, at: Pos) -> u32
+    requires { length rows.now < 2 ^ 32 }
     ensures { result ≡ level_in rows.now at }
 {
     count_around(rows.rows(), at)
@@ -55,74 +56,55 @@ fn count_around(rows: &[Row], at: Pos) -> u32
     rows.iter().filter(|row| encloses(row, at)).count() as u32
 }
 
-fn touched(rows: &[Row], at: Pos) -> Option<Row>
-    ensures { result ≡ touched at rows.now }
+fn touched(rows: &[Row], at: Pos) -> Option<&Row>
+    ensures { option_copied result ≡ touched at rows.now }
 {
     standing_at(rows, at).or(ending_at(rows, at))
 }
 
-fn standing_at(rows: &[Row], at: Pos) -> Option<Row>
-    ensures { result ≡ find (stands_at at) rows.now }
+fn standing_at(rows: &[Row], at: Pos) -> Option<&Row>
+    ensures { option_copied result ≡ find (stands_at at) rows.now }
 {
-    for row in rows {
-        if stands_at(row, at) {
-            return Some(*row);
-        }
-    }
-    None
+    rows.iter().find(|row| stands_at(row, at))
 }
 
-fn ending_at(rows: &[Row], at: Pos) -> Option<Row>
-    ensures { result ≡ find (ends_at at) rows.now }
+fn ending_at(rows: &[Row], at: Pos) -> Option<&Row>
+    ensures { option_copied result ≡ find (ends_at at) rows.now }
 {
-    for row in rows {
-        if ends_at(row, at) {
-            return Some(*row);
-        }
-    }
-    None
+    rows.iter().find(|row| ends_at(row, at))
 }
 
-fn last_around(rows: &[Row], at: Pos) -> Option<Row>
-    ensures { result ≡ find_last (encloses_closed at) rows.now }
+fn last_around(rows: &[Row], at: Pos) -> Option<&Row>
+    ensures { option_copied result ≡ find_last (encloses_closed at) rows.now }
 {
-    for row in rows.iter().rev() {
-        if encloses_closed(row, at) {
-            return Some(*row);
-        }
-    }
-    None
+    rows.iter().rev().find(|row| encloses_closed(row, at))
 }
 
 /// Where the first bracket starts that starts at a place or behind it.
 fn next_start(rows: &[Row], at: Pos) -> Option<Pos>
     ensures { result ≡ next_start rows.now at }
 {
-    for row in rows {
-        if !is_before(row.mark.at, at) {
-            return Some(row.mark.at);
-        }
-    }
-    None
+    let row = rows.iter().find(|row| starts_from(row, at))?;
+    Some(row.mark.at)
 }
 
 /// A row and its partner, where it has one.
-fn twin_of(rows: &[Row], row: Row) -> Option<Twin>
-    ensures { result ≡ twin_of rows.now row }
+fn twin_of(rows: &[Row], row: &Row) -> Option<Twin>
+    ensures { result ≡ twin_of rows.now row.now }
 {
-    let partner = partner_of(rows, &row)?;
+    let partner = partner_of(rows, row)?;
     Some(Twin {
-        first: span_of(&row),
-        second: span_of(&partner),
+        first: span_of(row),
+        second: span_of(partner),
     })
 }
 
 /// The row of a row's partner.
-pub(crate) fn partner_of(rows: &[Row], row: &Row) -> Option<Row>
-    ensures { result ≡ partner_of rows.now row.now }
+pub(crate) fn partner_of<'a>(rows: &'a [Row], row: &Row) -> Option<&'a Row>
+    ensures { option_copied result ≡ partner_of rows.now row.now }
 {
     let n = row.partner?;
-    rows.get(n as usize).copied()
+    rows.get(n as usize)
 }
 
 fn span_of(row: &Row) -> Span
@@ -153,6 +135,12 @@ fn ends_at(row: &Row, at: Pos) -> bool
     ensures { result ≡ ends_at at row.now }
 {
     row.mark.at.line == at.line && row.mark.to == at.col
+}
+
+fn starts_from(row: &Row, at: Pos) -> bool
+    ensures { result ≡ starts_from at row.now }
+{
+    !is_before(row.mark.at, at)
 }
 
 fn encloses(row: &Row, at: Pos) -> bool
