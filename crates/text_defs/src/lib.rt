@@ -3,4 +3,4 @@
 
 pub mod limits;
 
-pub use limits::{MOST_CHARS, MOST_LINE_BYTES, MOST_LINES};
+pub use limits::{MOST_CHARS, MOST_FILE_BYTES, MOST_LINE_BYTES, MOST_LINES};
