@@ -1,7 +1,7 @@
 //! Scopes: shared lists of names, with their standard type.
 #![tactic(auto)]
 
-mod numbers;
+pub mod numbers;
 mod piece;
 pub mod scopes;
 pub mod shared_name;

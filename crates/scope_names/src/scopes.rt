@@ -88,8 +88,8 @@ impl Scopes {
         }
     }
 
-    /// The number that is made of the names.
-    fn number(&self) -> u64
+    /// The number that is made of the names: lists with unequal numbers are unequal.
+    pub fn number(&self) -> u64
         ensures { result ≡ scopes_number self.now }
     {
         match &self.top {
