@@ -1,11 +1,11 @@
 -- The open rules of a run over lines, and tokens, as vscode-textmate's StateStackImpl and IToken have them.
-use Rattle.std.specs.Prelude.{ℕ, List, map, Bool, Option}
+use Rattle.std.specs.Prelude.{ℕ, suc, List, ◌∷◌, length, map, Bool, Option, None}
 use Rattle.scope_defs.specs.Scopes.{Scopes}
 
--- An open rule, as a frame keeps it: the rule's number, the place where it was entered in the line at hand and the anchor
--- of before, whether its begin took the line's end, the text of its end where a begin's captures stand in it, and the
--- scopes of the whole and of its content.
-pub record OpenRule : Type 0 where
+-- An open rule: its number, the place where it was entered in the line at hand and the anchor of before, whether its
+-- begin took the line's end, the text of its end where a begin's captures stand in it, and the scopes of the whole and
+-- of its content.
+pub record Frame : Type 0 where
   pub rule : ℕ
   pub enter : Option ℕ
   pub anchor : Option ℕ
@@ -14,32 +14,38 @@ pub record OpenRule : Type 0 where
   pub name : Scopes
   pub content : Scopes
 
--- what of an open rule lasts from line to line: neither the place where it was entered nor the anchor
-pub record LastingRule : Type 0 where
-  pub rule : ℕ
-  pub took_end : Bool
-  pub end_text : Option (List ℕ)
-  pub name : Scopes
-  pub content : Scopes
+-- the open rules: the innermost, and those below it from the inside out
+pub record Stack : Type 0 where
+  pub top : Frame
+  pub below : List Frame
 
--- where a run over a line begins or ends: whether the line is the first, and the open rules from the innermost out
-pub record LineState : Type 0 where
+-- where a run over a line begins or ends: whether the line is the first, and the open rules
+pub record Start : Type 0 where
   pub first : Bool
-  pub frames : List OpenRule
-
--- what of that the next line starts with
-pub record LineStart : Type 0 where
-  pub first : Bool
-  pub frames : List LastingRule
-
-abbrev pub lasting : OpenRule → LastingRule
-lasting frame = record { rule = frame.rule; took_end = frame.took_end; end_text = frame.end_text; name = frame.name; content = frame.content }
-
-abbrev pub start_of : LineState → LineStart
-start_of state = record { first = state.first; frames = map lasting state.frames }
+  pub stack : Stack
 
 -- the characters of a line from one column to another, and the scopes that hold there
-pub record ScopedRun : Type 0 where
+pub record Token : Type 0 where
   pub from : ℕ
   pub to : ℕ
   pub scopes : Scopes
+
+abbrev pub frames : Stack → List Frame
+frames stack = stack.top ∷ stack.below
+
+abbrev pub depth : Stack → ℕ
+depth stack = suc (length stack.below)
+
+-- a frame on a stack
+abbrev pub on : Frame → Stack → Stack
+on frame stack = record { top = frame; below = frames stack }
+
+-- Places of entry and anchors are forgotten from line to line: what is left is what a line starts with.
+abbrev pub forgotten : Frame → Frame
+forgotten frame = record frame { enter = None; anchor = None }
+
+abbrev pub forgotten_all : Stack → Stack
+forgotten_all stack = record { top = forgotten stack.top; below = map forgotten stack.below }
+
+abbrev pub bare : Start → Start
+bare start = record { first = start.first; stack = forgotten_all start.stack }
