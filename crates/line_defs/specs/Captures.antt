@@ -87,11 +87,18 @@ run_inside c run entry rule taken out = (run (take taken.to c.text) (inner_state
 abbrev pub opened_by_name : Around → Option (List ℕ) → Place → Opened → Opened
 opened_by_name c None taken opened = opened
 opened_by_name c (Some name) taken opened =
-    record opened { locals = record { scopes = named c (innermost c.scopes opened.locals) (Some name); end = taken.to } ∷ opened.locals }
+    record opened {
+      locals = record {
+        scopes = named c (innermost c.scopes opened.locals) (Some name);
+        end =
+            taken.to;
+      } ∷ opened.locals;
+    }
 
 -- an entry with patterns has a run of its own where one may still begin; else its name counts
 abbrev pub told_by : Around → Option Running → Option ℕ → Entry → Place → Opened → Opened
-told_by c (Some run) (Some rule) entry taken opened = record opened { out = run_inside c run entry rule taken opened.out }
+told_by c (Some run) (Some rule) entry taken opened =
+    record opened { out = run_inside c run entry rule taken opened.out }
 told_by c _ _ entry taken opened = opened_by_name c entry.name taken opened
 
 -- the scopes around a capture are put to its start
@@ -99,7 +106,8 @@ abbrev pub reached : Around → Place → Opened → Opened
 reached c taken opened = record opened { out = put opened.out (innermost c.scopes opened.locals) taken.from }
 
 abbrev pub told : Around → Entry → Place → Opened → Opened
-told c entry taken opened = told_by c c.inside entry.inner entry taken (reached c taken (closed_to taken.from opened.locals opened.out))
+told c entry taken opened = told_by c c.inside entry.inner entry taken
+    (reached c taken (closed_to taken.from opened.locals opened.out))
 
 -- an empty capture is skipped, and one that starts behind the match ends the captures
 abbrev pub by_place : Around → (empty behind : Bool) → Entry → Place → Opened → (Opened → Opened) → Opened
@@ -109,11 +117,13 @@ by_place c false false entry taken opened next = next (told c entry taken opened
 
 abbrev pub by_capture : Around → Option Place → Entry → Opened → (Opened → Opened) → Opened
 by_capture c None entry opened next = next opened
-by_capture c (Some taken) entry opened next = by_place c (taken.from == taken.to) (nat_lt c.matched.to taken.from) entry taken opened next
+by_capture c (Some taken) entry opened next =
+    by_place c (taken.from == taken.to) (nat_lt c.matched.to taken.from) entry taken opened next
 
 abbrev pub entries_told : Around → List Entry → Opened → Opened
 entries_told c [] opened = opened
-entries_told c (entry ∷ entries) opened = by_capture c (capture_of c.matched.captures entry.number) entry opened (entries_told c entries)
+entries_told c (entry ∷ entries) opened =
+    by_capture c (capture_of c.matched.captures entry.number) entry opened (entries_told c entries)
 
 abbrev pub all_closed : Opened → Output
 all_closed opened = closed_all opened.locals opened.out

@@ -30,7 +30,16 @@ after stack = record { first = false; stack = forgotten_all stack }
 -- the root has rule 0 and the scope name of its grammar
 abbrev pub root : (scope_name : List ℕ) → Frame
 root scope_name =
-    record { rule = 0; enter = None; anchor = None; took_end = false; end_text = None; name = push [] scope_name; content = push [] scope_name }
+    record {
+      rule = 0;
+      enter = None;
+      anchor = None;
+      took_end = false;
+      end_text = None;
+      name =
+          push [] scope_name;
+      content = push [] scope_name;
+    }
 
 -- a text starts with the root alone
 abbrev pub start_of : (scope_name : List ℕ) → Start

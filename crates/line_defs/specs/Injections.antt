@@ -1,6 +1,7 @@
 -- Injections: rules that are searched besides those of the top frame, where a selector holds of its content scopes. As
 -- vscode-textmate has it.
-use Rattle.std.specs.Prelude.{ℕ, ◌==◌, nat_lt, List, [], ◌∷◌, Bool, true, false, ◌&&◌, ◌||◌, if◌then◌else◌, Option, Some, None}
+use Rattle.std.specs.Prelude.{ℕ, ◌==◌, nat_lt, List, [], ◌∷◌, Bool, true, false, ◌&&◌, ◌||◌, if◌then◌else◌, Option}
+use Rattle.std.specs.Prelude.{Some, None}
 use Rattle.scope_defs.specs.Scopes.{Scopes}
 use Rattle.rule_defs.specs.Rules.{Injection}
 use Rattle.line_defs.specs.Machine.{Machine}
@@ -27,8 +28,10 @@ abbrev pub kept_then : (here : Bool) → Option Kept → (Option Kept → Inject
 kept_then true kept next = Keeps kept
 kept_then false kept next = next kept
 
-abbrev pub weighed : (earlier : Bool) → (place : ℕ) → (goes_first : Bool) → Matched → Option Kept → (Option Kept → Injected) → Injected
-weighed true place goes_first m kept next = kept_then (m.from == place) (Some (record { matched = m; goes_first = goes_first })) next
+abbrev pub weighed : (earlier : Bool) → (place : ℕ) → (goes_first : Bool) → Matched → Option Kept
+    → (Option Kept → Injected) → Injected
+weighed true place goes_first m kept next =
+    kept_then (m.from == place) (Some (record { matched = m; goes_first = goes_first })) next
 weighed false place goes_first m kept next = next kept
 
 -- what one injection finds is weighed against the best so far, and the search goes on with the next
@@ -45,7 +48,8 @@ scan_where false machine sight numbers = Nothing
 abbrev pub injected : Machine → Sight → Scopes → List Injection → Option Kept → Injected
 injected machine sight scopes [] kept = Keeps kept
 injected machine sight scopes (i ∷ is) kept =
-    after_one sight (scan_where (i.holds scopes) machine sight i.rules) i.goes_first kept (injected machine sight scopes is)
+    after_one sight (scan_where (i.holds scopes) machine sight i.rules) i.goes_first kept
+    (injected machine sight scopes is)
 
 -- a match of injections wins where it starts earlier, or at the same place and goes first
 abbrev pub wins : Kept → Matched → Bool

@@ -1,7 +1,9 @@
--- A line: the while pass, the run, and the tokens that are left. As vscode-textmate has it; long lines, and how deep runs
+-- A line: the while pass, the run, and the tokens that are left. As vscode-textmate has it; long lines, and how deep
+-- runs
 -- inside captures go, are this project's own.
 use Rattle.std.specs.Prelude.{ℕ, zero, suc, nat_le, List, [], ◌∷◌, ◌++◌, length, Bool, true, false, Option, Some, None}
 use Rattle.scope_defs.specs.Frames.{Start, Token, forgotten_all}
+use Rattle.line_defs.specs.declared.limits.TheConstants.{MOST_LEVELS}
 use Rattle.line_defs.specs.Machine.{Machine}
 use Rattle.line_defs.specs.Frames.{after}
 use Rattle.line_defs.specs.Tokens.{nothing_told, within_line, whole, at_least_one}
@@ -18,17 +20,13 @@ pub record LineResult : Type 0 where
 
 -- ---- the runs inside captures
 
--- captures within captures have runs of their own so deep
-abbrev pub most_levels : ℕ
-most_levels = 16
-
 -- the run over a capture, where so many levels are left; where none is left there is no such run
 abbrev pub inside_by : Machine → (levels : ℕ) → Option Running
 inside_by machine zero = None
 inside_by machine (suc levels) = Some (run_from machine (inside_by machine levels))
 
 abbrev pub run_over : Machine → (text : List ℕ) → Run
-run_over machine text = record { machine = machine; inside = inside_by machine most_levels; text = text }
+run_over machine text = record { machine = machine; inside = inside_by machine MOST_LEVELS; text = text }
 
 -- ---- the whole run
 
@@ -52,7 +50,7 @@ at_front start = record {
 
 -- the run behind the while pass, unless an attempt was spent there
 abbrev pub after_pass : Turned → Machine → (text : List ℕ) → State
-after_pass (GoesOn state) machine text = run_from machine (inside_by machine most_levels) text state
+after_pass (GoesOn state) machine text = run_from machine (inside_by machine MOST_LEVELS) text state
 after_pass (Stops state) machine text = state
 
 abbrev pub line_run : Machine → (text : List ℕ) → State → State
@@ -83,7 +81,8 @@ tokenised machine start line = line_by (nat_le machine.long (length line)) machi
 -- A text: each line starts from where the line before it ended.
 abbrev pub lines_tokenised : Machine → Start → List (List ℕ) → List LineResult
 lines_tokenised machine start [] = []
-lines_tokenised machine start (line ∷ lines) = tokenised machine start line ∷ lines_tokenised machine (tokenised machine start line).end lines
+lines_tokenised machine start (line ∷ lines) =
+    tokenised machine start line ∷ lines_tokenised machine (tokenised machine start line).end lines
 
 -- ---- without a grammar
 

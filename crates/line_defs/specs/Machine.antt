@@ -3,7 +3,8 @@ use Rattle.std.specs.Prelude.{ℕ, List, Option, unwrap_or, slice_get}
 use Rattle.pattern_defs.specs.Patterns.{Tree}
 use Rattle.rule_defs.specs.Rules.{Rule, Injection, no_rule}
 
--- Rules, injections in the order in which they are searched, how the text of a pattern is read, the budget of an attempt,
+-- Rules, injections in the order in which they are searched, how the text of a pattern is read, the budget of an
+-- attempt,
 -- and the length from which a line is long. Texts of a grammar are UTF-8 bytes, as a `&str` is in clauses, and texts of
 -- lines are characters.
 pub record Machine : Type 0 where

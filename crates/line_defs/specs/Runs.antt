@@ -3,7 +3,8 @@ use Rattle.std.specs.Prelude.{ℕ, nat_lt, List, length, Bool, false, Option, if
 use Rattle.scope_defs.specs.Frames.{Stack}
 use Rattle.line_defs.specs.Tokens.{Output, put}
 
--- the place of a run, where its anchor is, whether it stands at the start of the first line, the open rules, and what is
+-- the place of a run, where its anchor is, whether it stands at the start of the first line, the open rules, and what
+-- is
 -- told so far
 pub record State : Type 0 where
   pub place : ℕ

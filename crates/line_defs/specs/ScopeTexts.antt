@@ -2,7 +2,9 @@
 -- those of vscode-textmate; that `$n` takes all digits, that the case forms change ASCII letters only, and that a form
 -- whose capture isn't there stays as it is written are this project's own. A scope text is UTF-8 bytes, and what is
 -- captured is put into it as such.
-use Rattle.std.specs.Prelude.{ℕ, zero, suc, ◌+◌, ◌-◌, ◌*◌, ◌==◌, nat_le, nat_lt, nat_eq, List, [], ◌∷◌, ◌++◌, length, map, drop, fold, take_while, slice_range, codes, encode_utf8_all, Bool, true, false, ◌&&◌, if◌then◌else◌, Option, Some, None}
+use Rattle.std.specs.Prelude.{ℕ, zero, suc, ◌+◌, ◌-◌, ◌*◌, ◌==◌, nat_le, nat_lt, nat_eq, List, [], ◌∷◌, ◌++◌, length}
+use Rattle.std.specs.Prelude.{map, drop, fold, take_while, slice_range, codes, encode_utf8_all, Bool, true, false}
+use Rattle.std.specs.Prelude.{◌&&◌, if◌then◌else◌, Option, Some, None}
 use Rattle.std.specs.Char.{to_ascii_lowercase, to_ascii_uppercase}
 use Rattle.std.specs.List.{starts_with}
 use Rattle.pattern_defs.specs.declared.outcomes.Place.{Place}
@@ -67,8 +69,10 @@ upcase = codes ":/upcase}"
 -- `${n:/downcase}` and `${n:/upcase}`, given the digits, and whether what stands behind them is the one or the other
 abbrev pub long_form : List ℕ → (lower upper : Bool) → Option Form
 long_form [] lower upper = None
-long_form (d ∷ ds) true upper = Some (record { number = number_of (d ∷ ds); case = Lower; more = 1 + length (d ∷ ds) + length downcase })
-long_form (d ∷ ds) false true = Some (record { number = number_of (d ∷ ds); case = Upper; more = 1 + length (d ∷ ds) + length upcase })
+long_form (d ∷ ds) true upper = Some (record
+    { number = number_of (d ∷ ds); case = Lower; more = 1 + length (d ∷ ds) + length downcase })
+long_form (d ∷ ds) false true = Some (record
+    { number = number_of (d ∷ ds); case = Upper; more = 1 + length (d ∷ ds) + length upcase })
 long_form (d ∷ ds) false false = None
 
 abbrev pub cased_form : (digits behind : List ℕ) → Option Form
@@ -77,7 +81,8 @@ cased_form digits behind = long_form digits (starts_with nat_eq behind downcase)
 -- the form behind a `$`
 abbrev pub form_behind : List ℕ → Option Form
 form_behind [] = None
-form_behind (c ∷ cs) = if c == 123 then cased_form (digits_at cs) (drop (length (digits_at cs)) cs) else short_form (digits_at (c ∷ cs))
+form_behind (c ∷ cs) = if c == 123 then cased_form (digits_at cs) (drop (length (digits_at cs)) cs) else short_form
+    (digits_at (c ∷ cs))
 
 abbrev pub form_at : ℕ → List ℕ → Option Form
 form_at c cs = if c == 36 then form_behind cs else None

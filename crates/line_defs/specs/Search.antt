@@ -1,6 +1,7 @@
 -- What the patterns of a frame find: those of its active rules, and its end pattern before or behind them. As
 -- vscode-textmate has it.
-use Rattle.std.specs.Prelude.{ℕ, nat_le, List, [], ◌∷◌, ◌++◌, map, flat_map, slice_get, Bool, true, false, if◌then◌else◌, Option, Some, None, option_and_then}
+use Rattle.std.specs.Prelude.{ℕ, nat_le, List, [], ◌∷◌, ◌++◌, map, flat_map, slice_get, Bool, true, false}
+use Rattle.std.specs.Prelude.{if◌then◌else◌, Option, Some, None, option_and_then}
 use Rattle.pattern_defs.specs.declared.outcomes.Flags.{Flags}
 use Rattle.pattern_defs.specs.Patterns.{Tree}
 use Rattle.pattern_defs.specs.Attempt.{Ran, Hit, Miss, Spent, Captures}
@@ -56,14 +57,16 @@ with_groups most tree = if nat_le tree.groups most then Some tree else None
 abbrev pub finish_of : Machine → Slot → (end_text : Option (List ℕ)) → Option Tree
 finish_of machine Never end_text = None
 finish_of machine (Read tree) end_text = Some tree
-finish_of machine (Later text groups) end_text = option_and_then (with_groups groups) (option_and_then machine.reader end_text)
+finish_of machine (Later text groups) end_text =
+    option_and_then (with_groups groups) (option_and_then machine.reader end_text)
 
 abbrev pub choice_of : Of → Option Tree → List Choice
 choice_of of None = []
 choice_of of (Some tree) = record { of = of; tree = tree } ∷ []
 
 abbrev pub rule_choices : Machine → (numbers : List ℕ) → List Choice
-rule_choices machine numbers = flat_map (λ number. choice_of (OfRule number) (pattern_of (rule_at machine number).start)) numbers
+rule_choices machine numbers = flat_map (λ number. choice_of (OfRule number)
+    (pattern_of (rule_at machine number).start)) numbers
 
 abbrev pub finish_choice : Machine → Frame → List Choice
 finish_choice machine frame = choice_of OfEnd (finish_of machine (rule_at machine frame.rule).finish frame.end_text)
@@ -81,7 +84,8 @@ with_end machine _ last frame inside = inside
 -- the patterns of a frame, in order
 abbrev pub choices : Machine → Frame → List Choice
 choices machine frame =
-    with_end machine (rule_at machine frame.rule).kind (rule_at machine frame.rule).finish_last frame (rule_choices machine (rule_at machine frame.rule).active)
+    with_end machine (rule_at machine frame.rule).kind (rule_at machine frame.rule).finish_last frame
+    (rule_choices machine (rule_at machine frame.rule).active)
 
 -- ---- one scan
 
@@ -101,7 +105,8 @@ found_by sight choices (Some pair) = found_of sight pair (slice_get choices pair
 -- what some patterns find together: the first match, by place and then by their order
 abbrev pub scan : Sight → List Choice → Found
 scan sight choices =
-    found_by sight choices (first_pair (map (λ choice. choice.tree) choices) sight.text sight.place sight.flags sight.budget)
+    found_by sight choices (first_pair (map (λ choice. choice.tree) choices) sight.text sight.place sight.flags
+    sight.budget)
 
 -- ---- from a run
 
@@ -111,7 +116,13 @@ mark state = if is_at state.place state.anchor then Some state.place else None
 
 abbrev pub sight : Machine → (text : List ℕ) → State → Sight
 sight machine text state =
-    record { text = text; place = state.place; flags = record { first = state.first; anchor = mark state }; budget = machine.budget }
+    record {
+      text = text;
+      place = state.place;
+      flags = record { first = state.first; anchor = mark state };
+      budget =
+          machine.budget;
+    }
 
 -- what the patterns of the top frame find
 abbrev pub ordinary : Machine → (text : List ℕ) → State → Found

@@ -16,7 +16,11 @@ nothing_told = record { tokens = []; end = 0; stopped = false }
 -- Scopes are put to a place: a token from the last one's end to there, where the place lies behind it.
 abbrev pub put : Output → Scopes → ℕ → Output
 put out scopes place =
-    if nat_lt out.end place then record out { tokens = out.tokens ++ record { from = out.end; to = place; scopes = scopes } ∷ []; end = place } else out
+    if nat_lt out.end place then record out {
+      tokens =
+          out.tokens ++ record { from = out.end; to = place; scopes = scopes } ∷ [];
+      end = place;
+    } else out
 
 abbrev pub spent : Output → Output
 spent out = record out { stopped = true }

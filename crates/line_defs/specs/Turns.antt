@@ -1,9 +1,12 @@
--- A turn of a run: what the search finds, and what is done with it. As vscode-textmate has it; what a spent attempt does,
+-- A turn of a run: what the search finds, and what is done with it. As vscode-textmate has it; what a spent attempt
+-- does,
 -- and how many frames there may be, are this project's own.
-use Rattle.std.specs.Prelude.{ℕ, zero, suc, ◌+◌, ◌*◌, ◌==◌, nat_le, List, [], ◌∷◌, length, Bool, true, false, ◌&&◌, ◌||◌, Option, Some, None}
+use Rattle.std.specs.Prelude.{ℕ, zero, suc, ◌+◌, ◌*◌, ◌==◌, nat_le, List, [], ◌∷◌, length, Bool, true, false, ◌&&◌}
+use Rattle.std.specs.Prelude.{◌||◌, Option, Some, None}
 use Rattle.scope_defs.specs.Scopes.{Scopes}
 use Rattle.scope_defs.specs.Frames.{Frame, on, depth}
 use Rattle.rule_defs.specs.Rules.{Kind, Match, Slot, Later, Entry, Rule}
+use Rattle.line_defs.specs.declared.limits.TheConstants.{MOST_OPEN}
 use Rattle.line_defs.specs.Machine.{Machine, rule_at}
 use Rattle.line_defs.specs.ScopeTexts.{pushed}
 use Rattle.line_defs.specs.EndTexts.{end_text}
@@ -13,10 +16,6 @@ use Rattle.line_defs.specs.Runs.{State, Turned, GoesOn, Stops, rest, advanced}
 use Rattle.line_defs.specs.Search.{Matched, Of, OfEnd, OfRule, Found, Nothing, OutOfBudget, At}
 use Rattle.line_defs.specs.Injections.{search}
 use Rattle.line_defs.specs.Captures.{Running, captures_told}
-
--- a begin pushes a frame where there are fewer
-abbrev pub most_frames : ℕ
-most_frames = 1000
 
 -- what a run has: the rules, the runs inside captures, and the text
 pub record Run : Type 0 where
@@ -31,11 +30,20 @@ names run m scopes name = pushed run.text m.captures scopes name
 
 abbrev pub told_captures : Run → State → Scopes → Matched → List Entry → Output → Output
 told_captures run state scopes m entries out =
-    captures_told (record { inside = run.inside; text = run.text; stack = state.stack; first = state.first; scopes = scopes; matched = m }) entries out
+    captures_told (record {
+      inside = run.inside;
+      text = run.text;
+      stack = state.stack;
+      first = state.first;
+      scopes =
+          scopes;
+      matched = m;
+    }) entries out
 
 -- the scopes of before are put to the match's start, its captures are told, and its own scopes are put to its end
 abbrev pub told_match : Run → State → (before scopes : Scopes) → Matched → List Entry → Output
-told_match run state before scopes m entries = put (told_captures run state scopes m entries (put state.out before m.from)) scopes m.to
+told_match run state before scopes m entries =
+    put (told_captures run state scopes m entries (put state.out before m.from)) scopes m.to
 
 -- ---- how a turn ends
 
@@ -56,7 +64,10 @@ is_here m state = m.to == state.place
 -- From the match on the name scopes of the frame hold.
 abbrev pub end_told : Run → Matched → (content : Scopes) → State → State
 end_told run m content state =
-    record state { out = told_match run state content state.stack.top.content m (rule_at run.machine state.stack.top.rule).finish_captures }
+    record state {
+      out = told_match run state content state.stack.top.content m
+          (rule_at run.machine state.stack.top.rule).finish_captures;
+    }
 
 -- A frame that was entered here and ends here stands again as it was popped, with the rest. Else it is popped, and the
 -- anchor is the one that it kept.
@@ -73,7 +84,10 @@ end_found run m state =
 
 abbrev pub match_told : Run → Rule → Matched → State → State
 match_told run rule m state =
-    record state { out = told_match run state state.stack.top.content (names run m state.stack.top.content rule.name) m rule.start_captures }
+    record state {
+      out = told_match run state state.stack.top.content (names run m state.stack.top.content rule.name)
+          m rule.start_captures;
+    }
 
 -- One that takes nothing pops a frame, unless that is the root, with the rest.
 abbrev pub popped_where : Bool → State → State
@@ -86,7 +100,8 @@ match_found run rule m state =
 
 -- ---- a begin rule
 
--- the frame as it is pushed: the scopes of before with the rule's name are those of the whole and, so far, of its content
+-- the frame as it is pushed: the scopes of before with the rule's name are those of the whole and, so far, of its
+-- content
 abbrev pub new_frame : Run → (number : ℕ) → Scopes → Matched → State → Frame
 new_frame run number scopes m state = record {
   rule = number;
@@ -99,7 +114,8 @@ new_frame run number scopes m state = record {
 }
 
 abbrev pub begin_told : Run → Rule → Matched → (before : Scopes) → State → State
-begin_told run rule m before state = record state { out = told_match run state before state.stack.top.name m rule.start_captures }
+begin_told run rule m before state = record state
+    { out = told_match run state before state.stack.top.name m rule.start_captures }
 
 -- the text of an end is kept where captures change it
 abbrev pub kept_end : Run → Matched → Slot → Option (List ℕ)
@@ -108,15 +124,21 @@ kept_end run m _ = None
 
 -- the frame as it stays: with the scopes of its content, and the text of its end
 abbrev pub settled : Run → Rule → Matched → Frame → Frame
-settled run rule m frame = record frame { content = names run m frame.content rule.content; end_text = kept_end run m rule.finish }
+settled run rule m frame = record frame {
+  content = names run m frame.content rule.content;
+  end_text =
+      kept_end run m rule.finish;
+}
 
 abbrev pub with_settled : Run → Rule → Matched → State → State
-with_settled run rule m state = record state { anchor = Some m.to; stack = record state.stack { top = settled run rule m state.stack.top } }
+with_settled run rule m state = record state
+    { anchor = Some m.to; stack = record state.stack { top = settled run rule m state.stack.top } }
 
 -- whether one of the frames, going down as long as they were entered here, has a rule
 abbrev pub is_entered : (place number : ℕ) → List Frame → Bool
 is_entered place number [] = false
-is_entered place number (frame ∷ frames) = is_at place frame.enter && ((frame.rule == number) || is_entered place number frames)
+is_entered place number (frame ∷ frames) =
+    is_at place frame.enter && ((frame.rule == number) || is_entered place number frames)
 
 -- A frame whose begin takes nothing, on one of its own rule that was entered here too, is popped, with the rest.
 abbrev pub is_stuck : (number : ℕ) → Matched → State → Bool
@@ -126,7 +148,8 @@ abbrev pub entered : (stuck : Bool) → Run → Matched → State → Turned
 entered true run m state = rest run.text (record state { stack = popped state.stack })
 entered false run m state = goes_on m state
 
--- Where there are as many frames as there may be, the new one is dropped, and the anchor stays; with the rest, where the
+-- Where there are as many frames as there may be, the new one is dropped, and the anchor stays; with the rest, where
+-- the
 -- match takes nothing.
 abbrev pub begun : (full : Bool) → Run → (number : ℕ) → Rule → Matched → State → Turned
 begun true run number rule m state = rest_where (is_here m state) run m (record state { stack = popped state.stack })
@@ -134,9 +157,12 @@ begun false run number rule m state = entered (is_stuck number m state) run m (w
 
 abbrev pub begin_found : Run → (number : ℕ) → Rule → Matched → State → Turned
 begin_found run number rule m state =
-    begun (nat_le most_frames (depth state.stack)) run number rule m
+    begun (nat_le MOST_OPEN (depth state.stack)) run number rule m
     (begin_told run rule m state.stack.top.content
-    (record state { stack = on (new_frame run number (names run m state.stack.top.content rule.name) m state) state.stack }))
+    (record state {
+      stack = on (new_frame run number (names run m state.stack.top.content rule.name) m state)
+          state.stack;
+    }))
 
 -- ---- the turn
 

@@ -1,4 +1,5 @@
--- The while pass: before a line is run, each frame of a begin/while rule asks whether it goes on. As vscode-textmate has
+-- The while pass: before a line is run, each frame of a begin/while rule asks whether it goes on. As vscode-textmate
+-- has
 -- it; what a spent attempt does is this project's own.
 use Rattle.std.specs.Prelude.{List, [], ◌∷◌, reverse, Some}
 use Rattle.scope_defs.specs.Frames.{Frame, Stack, frames}
@@ -14,7 +15,11 @@ use Rattle.line_defs.specs.Turns.{Run, told_match}
 -- takes something, the place too.
 abbrev pub kept_by : Run → Frame → Rule → Matched → State → State
 kept_by run frame rule m state =
-    advanced m.to (record state { anchor = Some m.to; out = told_match run state frame.content frame.content m rule.finish_captures })
+    advanced m.to (record state {
+      anchor = Some m.to;
+      out =
+          told_match run state frame.content frame.content m rule.finish_captures;
+    })
 
 -- One that isn't found takes away its frame and all above it, which ends the pass. At a spent attempt all frames are
 -- kept, with the rest.
@@ -24,7 +29,8 @@ asked OutOfBudget run frame below state next = rest run.text (record state { out
 asked (At m) run frame below state next = next (kept_by run frame (rule_at run.machine frame.rule) m state)
 
 abbrev pub asked_where : Kind → Run → Frame → (below : List Frame) → State → (State → Turned) → Turned
-asked_where BeginWhile run frame below state next = asked (while_found run.machine run.text state frame) run frame below state next
+asked_where BeginWhile run frame below state next =
+    asked (while_found run.machine run.text state frame) run frame below state next
 asked_where _ run frame below state next = next state
 
 -- the frames from the outermost inward, each with those below it that have passed

@@ -1,16 +1,19 @@
 -- Captures, each example named by what it shows.
 use Rattle.std.specs.Prelude.{◌≡◌, [], ◌∷◌, refl}
 use Rattle.line_defs.specs.Machine.{Machine}
-use Rattle.line_examples.specs.Short.{group, single, block, with_content, capture, inside, inside_with, with_captures, grammar, with_budget, line, stopped, token, told}
+use Rattle.line_examples.specs.Short.{group, single, block, with_content, capture, inside, inside_with, with_captures}
+use Rattle.line_examples.specs.Short.{grammar, with_budget, line, stopped, token, told}
 
 abbrev nested_captures : Machine
 nested_captures = grammar
     (group (1 ∷ [])
-    ∷ with_captures (capture 0 "w" ∷ capture 1 "x" ∷ capture 2 "y" ∷ capture 3 "z" ∷ capture 4 "u" ∷ capture 5 "v $5.$4" ∷ []) (single "m" "((a)(b))(c)?(d)") ∷ [])
+    ∷ with_captures (capture 0 "w" ∷ capture 1 "x" ∷ capture 2 "y" ∷ capture 3 "z" ∷ capture 4 "u" ∷ capture 5
+    "v $5.$4" ∷ []) (single "m" "((a)(b))(c)?(d)") ∷ [])
 
 pub captures_stand_in_one_another : told nested_captures ("abd abcd" ∷ [])
-    ≡ line (token 0 1 "s m w x y" ∷ token 1 2 "s m w x z" ∷ token 2 3 "s m w v d." ∷ token 3 4 "s" ∷ token 4 5 "s m w x y"
-        ∷ token 5 6 "s m w x z" ∷ token 6 7 "s m w u" ∷ token 7 8 "s m w v d.c" ∷ []) (0 ∷ []) ∷ []
+    ≡ line (token 0 1 "s m w x y" ∷ token 1 2 "s m w x z" ∷ token 2 3 "s m w v d." ∷ token 3 4 "s" ∷ token 4 5
+    "s m w x y"
+    ∷ token 5 6 "s m w x z" ∷ token 6 7 "s m w u" ∷ token 7 8 "s m w v d.c" ∷ []) (0 ∷ []) ∷ []
 unfolding told
 captures_stand_in_one_another = refl
 
@@ -88,7 +91,8 @@ frames_in_a_capture = grammar
 
 pub a_run_over_a_capture_ends_with_it_and_its_frames_are_dropped : told frames_in_a_capture ("<x(a)x(b>c" ∷ [])
     ≡ line (token 0 1 "s t" ∷ token 1 2 "s t c" ∷ token 2 3 "s t c p" ∷ token 3 4 "s t c p q" ∷ token 4 5 "s t c p"
-        ∷ token 5 6 "s t c" ∷ token 6 7 "s t c p" ∷ token 7 8 "s t c p q" ∷ token 8 9 "s t" ∷ token 9 10 "s" ∷ []) (0 ∷ []) ∷ []
+    ∷ token 5 6 "s t c" ∷ token 6 7 "s t c p" ∷ token 7 8 "s t c p q" ∷ token 8 9 "s t" ∷ token 9 10 "s" ∷ [])
+    (0 ∷ []) ∷ []
 unfolding told
 a_run_over_a_capture_ends_with_it_and_its_frames_are_dropped = refl
 
@@ -133,7 +137,8 @@ spent_in_a_capture = with_budget 120 (grammar
     ∷ single "k" "(b*)*c" ∷ []))
 
 pub a_spent_attempt_ends_the_run_over_its_capture_alone : told spent_in_a_capture ("<abbbbbbb>a" ∷ "<abc>" ∷ [])
-    ≡ stopped (token 0 1 "s t z" ∷ token 1 2 "s t c a" ∷ token 2 9 "s t c" ∷ token 9 10 "s t z" ∷ token 10 11 "s" ∷ []) (0 ∷ [])
+    ≡ stopped (token 0 1 "s t z" ∷ token 1 2 "s t c a" ∷ token 2 9 "s t c" ∷ token 9 10 "s t z" ∷ token 10 11 "s"
+    ∷ []) (0 ∷ [])
     ∷ line (token 0 1 "s t z" ∷ token 1 2 "s t c a" ∷ token 2 4 "s t c k" ∷ token 4 5 "s t z" ∷ []) (0 ∷ []) ∷ []
 unfolding told
 a_spent_attempt_ends_the_run_over_its_capture_alone = refl
@@ -145,7 +150,8 @@ captures_in_captures = grammar
     ∷ group (1 ∷ []) ∷ [])
 
 pub runs_over_captures_go_sixteen_deep : told captures_in_captures ("ab" ∷ [])
-    ≡ line (token 0 1 "s m c d m c d m c d m c d m c d m c d m c d m c d m c d m c d m c d m c d m c d m c d m c d m c d m c"
-        ∷ token 1 2 "s" ∷ []) (0 ∷ []) ∷ []
+    ≡ line (token 0 1
+    "s m c d m c d m c d m c d m c d m c d m c d m c d m c d m c d m c d m c d m c d m c d m c d m c d m c"
+    ∷ token 1 2 "s" ∷ []) (0 ∷ []) ∷ []
 unfolding told
 runs_over_captures_go_sixteen_deep = refl

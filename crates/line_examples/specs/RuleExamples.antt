@@ -1,7 +1,8 @@
 -- Match rules and begin/end rules, each example named by what it shows.
 use Rattle.std.specs.Prelude.{◌≡◌, [], ◌∷◌, refl}
 use Rattle.line_defs.specs.Machine.{Machine}
-use Rattle.line_examples.specs.Short.{group, single, block, with_content, end_last, capture, with_captures, with_end_captures, grammar, line, token, told}
+use Rattle.line_examples.specs.Short.{group, single, block, with_content, end_last, capture, with_captures}
+use Rattle.line_examples.specs.Short.{with_end_captures, grammar, line, token, told}
 
 -- `comment.block` from `/*` to `*/`
 abbrev block_comments : Machine
@@ -34,8 +35,8 @@ comments_and_strings = grammar
 
 pub the_first_of_two_patterns_at_one_place_wins : told comments_and_strings ("a \"b\\\"c\" // x" ∷ "\"" ∷ "// \"" ∷ [])
     ≡ line (token 0 2 "s" ∷ token 2 3 "s string.quoted.tiny" ∷ token 3 4 "s string.quoted.tiny"
-        ∷ token 4 6 "s string.quoted.tiny constant.character.escape.tiny" ∷ token 6 7 "s string.quoted.tiny"
-        ∷ token 7 8 "s string.quoted.tiny" ∷ token 8 9 "s" ∷ token 9 13 "s comment.line.tiny" ∷ []) (0 ∷ [])
+    ∷ token 4 6 "s string.quoted.tiny constant.character.escape.tiny" ∷ token 6 7 "s string.quoted.tiny"
+    ∷ token 7 8 "s string.quoted.tiny" ∷ token 8 9 "s" ∷ token 9 13 "s comment.line.tiny" ∷ []) (0 ∷ [])
     ∷ line (token 0 1 "s string.quoted.tiny" ∷ []) (3 ∷ 0 ∷ [])
     ∷ line (token 0 3 "s string.quoted.tiny" ∷ token 3 4 "s string.quoted.tiny" ∷ []) (0 ∷ []) ∷ []
 unfolding told
@@ -56,11 +57,13 @@ a_pattern_that_cannot_be_read_never_matches = refl
 abbrev names_and_content : Machine
 names_and_content = grammar
     (group (1 ∷ [])
-    ∷ with_content "c.$2 d" (with_captures (capture 1 "b1" ∷ capture 2 "b2" ∷ []) (with_end_captures (capture 0 "e0" ∷ capture 1 "e1.$1" ∷ []) (block "n.$2" "(a)(.)" "(z)(.)" []))) ∷ [])
+    ∷ with_content "c.$2 d" (with_captures (capture 1 "b1" ∷ capture 2 "b2" ∷ [])
+    (with_end_captures (capture 0 "e0" ∷ capture 1 "e1.$1" ∷ []) (block "n.$2" "(a)(.)" "(z)(.)" []))) ∷ [])
 
 pub a_name_holds_of_the_whole_and_a_content_name_inside : told names_and_content ("a.xyz!q" ∷ [])
-    ≡ line (token 0 1 "s n. b1" ∷ token 1 2 "s n. b2" ∷ token 2 4 "s n. c. d" ∷ token 4 5 "s n. e0 e1.z" ∷ token 5 6 "s n. e0"
-        ∷ token 6 7 "s" ∷ []) (0 ∷ []) ∷ []
+    ≡ line (token 0 1 "s n. b1" ∷ token 1 2 "s n. b2" ∷ token 2 4 "s n. c. d" ∷ token 4 5 "s n. e0 e1.z" ∷ token 5 6
+    "s n. e0"
+    ∷ token 6 7 "s" ∷ []) (0 ∷ []) ∷ []
 unfolding told
 a_name_holds_of_the_whole_and_a_content_name_inside = refl
 

@@ -86,7 +86,8 @@ a_backslash_before_a_reference = grammar
     (group (1 ∷ [])
     ∷ block "e" "<(.)>" "\\\\1\\2x" [] ∷ [])
 
-pub a_backslash_before_a_backslash_and_a_digit_starts_no_escape : told a_backslash_before_a_reference ("<(>" ∷ "(x" ∷ "\\(x" ∷ "\\1" ∷ [])
+pub a_backslash_before_a_backslash_and_a_digit_starts_no_escape : told a_backslash_before_a_reference
+    ("<(>" ∷ "(x" ∷ "\\(x" ∷ "\\1" ∷ [])
     ≡ line (token 0 3 "s e" ∷ []) (1 ∷ 0 ∷ [])
     ∷ line (token 0 2 "s e" ∷ []) (1 ∷ 0 ∷ [])
     ∷ line (token 0 3 "s e" ∷ []) (1 ∷ 0 ∷ [])

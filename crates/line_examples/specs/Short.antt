@@ -4,20 +4,24 @@ use lib.Utf8.{encode}
 use Rattle.char_sets.specs.Named.{is_word}
 use Rattle.line_defs.specs.Turns.{turns}
 use Rattle.pattern_defs.specs.Attempt.{go_on}
-use Rattle.syntax_defs.specs.Classes.{class_within, members_at, part_at, member_at, item_at, range_char_at, range_end, behind_class_backslash, behind_bracket, bracket_at, behind_colon}
-use Rattle.syntax_defs.specs.Escapes.{behind_backslash, escape_by, hex_at, byte_at, unicode_at, braced_at, property_at, property_by, by_plain_name, named_bracket}
+use Rattle.syntax_defs.specs.Classes.{class_within, members_at, part_at, member_at, item_at, range_char_at, range_end}
+use Rattle.syntax_defs.specs.Classes.{behind_class_backslash, behind_bracket, bracket_at, behind_colon}
+use Rattle.syntax_defs.specs.Escapes.{behind_backslash, escape_by, hex_at, byte_at, unicode_at, braced_at}
+use Rattle.syntax_defs.specs.Escapes.{property_at, property_by, by_plain_name, named_bracket}
 use Rattle.ucd_category.specs.GeneralCategory.{general_category}
 use Rattle.ucd_category.specs.GeneralCategoryRows.{general_category_rows}
 use Rattle.ucd_props.specs.Binary.{is_white_space}
 use Rattle.ucd_props.specs.Ranges.{white_space_ranges}
 use Rattle.ucd_table.specs.Rows.{value_in, in_ranges}
-use Rattle.std.specs.Prelude.{ℕ, ◌==◌, List, [], ◌∷◌, map, filter, count_by, drop, codes, Bool, true, false, ◌||◌, if◌then◌else◌, Option, Some, None, unwrap_or, Result, Ok, Err}
+use Rattle.std.specs.Prelude.{ℕ, ◌==◌, List, [], ◌∷◌, map, filter, count_by, drop, codes, Bool, true, false, ◌||◌}
+use Rattle.std.specs.Prelude.{if◌then◌else◌, Option, Some, None, unwrap_or, Result, Ok, Err}
 use Rattle.char_sets.specs.declared.char_set.CharRange.{CharRange}
 use Rattle.pattern_defs.specs.declared.nodes.PatNode.{PatNode}
 use Rattle.pattern_defs.specs.declared.nodes.PatNode.TheVariants as nodes
 use Rattle.pattern_defs.specs.Patterns.{Tree}
 use Rattle.syntax_defs.specs.declared.items.Item.{Item}
-use Rattle.syntax_defs.specs.declared.items.Item.TheVariants.{One, At, Choice, Group as Grouped, Repeat, Ahead, Behind, Atomic, Back}
+use Rattle.syntax_defs.specs.declared.items.Item.TheVariants.{One, At, Choice, Group as Grouped, Repeat, Ahead}
+use Rattle.syntax_defs.specs.declared.items.Item.TheVariants.{Behind, Atomic, Back}
 use Rattle.syntax_defs.specs.Reading.{Fault, Read as ReadPart}
 use Rattle.syntax_defs.specs.Singles.{single_at}
 use Rattle.syntax_defs.specs.PatternSyntax.{Parsed, body_at, steps}
@@ -26,7 +30,8 @@ use Rattle.syntax_defs.specs.Lengths.{read_pattern, lengths_of, group_of}
 use Rattle.scope_defs.specs.Scopes.{Scopes, pieces, push}
 use Rattle.scope_defs.specs.Frames.{Start, Token, frames}
 use Rattle.scope_defs.specs.Selectors.{path_holds}
-use Rattle.rule_defs.specs.Rules.{Match, BeginEnd, BeginWhile, Slot, Never, Read, Later, Entry, Rule, Injection, no_rule}
+use Rattle.rule_defs.specs.Rules.{Match, BeginEnd, BeginWhile, Slot, Never, Read, Later, Entry, Rule, Injection}
+use Rattle.rule_defs.specs.Rules.{no_rule}
 use Rattle.line_defs.specs.ScopeTexts.{is_digit}
 use Rattle.line_defs.specs.Machine.{Machine}
 use Rattle.line_defs.specs.Frames.{start_of}
@@ -57,7 +62,12 @@ node_of text parsed lengths (Back at target fold) = nodes.Back (unwrap_or (group
 
 abbrev pub tree_of : (text : List ℕ) → Result Parsed Fault → Option Tree
 tree_of text (Ok parsed) =
-    Some (record { lists = map (map (node_of text parsed (lengths_of parsed.lists))) parsed.lists; top = parsed.top; groups = parsed.groups })
+    Some (record {
+      lists = map (map (node_of text parsed (lengths_of parsed.lists))) parsed.lists;
+      top =
+          parsed.top;
+      groups = parsed.groups;
+    })
 tree_of text (Err fault) = None
 
 -- how a pattern text is read
@@ -80,7 +90,8 @@ has_reference (c ∷ d ∷ cs) = if c == 92 then is_digit d || has_reference (d 
 -- a text of `end` or `while`: one with back references has at most as many groups as `(` and backslashes
 abbrev pub finish : String → Slot
 finish text =
-    if has_reference (codes text) then Later (codes text) (count_by (λ c. (c == 40) || (c == 92)) (codes text)) else pattern text
+    if has_reference (codes text) then Later (codes text) (count_by (λ c. (c == 40) || (c == 92)) (codes text)) else
+    pattern text
 
 -- ---- rules
 
@@ -99,12 +110,26 @@ single name text = record no_rule { kind = Match; name = scope_text name; start 
 -- a begin/end rule with rules inside
 abbrev pub block : (name begin end : String) → List ℕ → Rule
 block name begin end active =
-    record no_rule { kind = BeginEnd; name = scope_text name; start = pattern begin; finish = finish end; active = active }
+    record no_rule {
+      kind = BeginEnd;
+      name = scope_text name;
+      start = pattern begin;
+      finish = finish end;
+      active =
+          active;
+    }
 
 -- a begin/while rule with rules inside
 abbrev pub lasting : (name begin keep : String) → List ℕ → Rule
 lasting name begin keep active =
-    record no_rule { kind = BeginWhile; name = scope_text name; start = pattern begin; finish = finish keep; active = active }
+    record no_rule {
+      kind = BeginWhile;
+      name = scope_text name;
+      start = pattern begin;
+      finish = finish keep;
+      active =
+          active;
+    }
 
 abbrev pub with_content : String → Rule → Rule
 with_content content rule = record rule { content = scope_text content }
@@ -161,7 +186,8 @@ with_injections injections machine = record machine { injections = injections }
 
 -- ---- what lines give
 
--- the tokens of a line, the numbers of the rules that are open behind it, from the inside out, and whether an attempt was
+-- the tokens of a line, the numbers of the rules that are open behind it, from the inside out, and whether an attempt
+-- was
 -- spent
 pub record Told : Type 0 where
   pub tokens : List Token

@@ -1,7 +1,8 @@
 -- Turns that take nothing, each named by what it shows.
 use Rattle.std.specs.Prelude.{◌≡◌, [], ◌∷◌, refl}
 use Rattle.line_defs.specs.Machine.{Machine}
-use Rattle.line_examples.specs.Short.{group, single, block, with_content, inside, with_captures, grammar, line, token, told}
+use Rattle.line_examples.specs.Short.{group, single, block, with_content, inside, with_captures, grammar, line, token}
+use Rattle.line_examples.specs.Short.{told}
 
 abbrev looking_ahead_inside : Machine
 looking_ahead_inside = grammar
@@ -120,8 +121,10 @@ entered_below_a_capture = grammar
     ∷ single "a" "a" ∷ [])
 
 pub a_frame_below_a_capture_counts_as_entered_here : told entered_below_a_capture ("aab" ∷ "xa" ∷ [])
-    ≡ line (token 0 1 "s r c r c r c r c r c r c r c r c r c r c r c r c r c r c r c r c r c" ∷ token 1 2 "s r a" ∷ token 2 3 "s r" ∷ []) (0 ∷ [])
-    ∷ line (token 0 1 "s" ∷ token 1 2 "s r c r c r c r c r c r c r c r c r c r c r c r c r c r c r c r c r c" ∷ []) (1 ∷ 0 ∷ []) ∷ []
+    ≡ line (token 0 1 "s r c r c r c r c r c r c r c r c r c r c r c r c r c r c r c r c r c" ∷ token 1 2 "s r a"
+    ∷ token 2 3 "s r" ∷ []) (0 ∷ [])
+    ∷ line (token 0 1 "s" ∷ token 1 2 "s r c r c r c r c r c r c r c r c r c r c r c r c r c r c r c r c r c" ∷ [])
+    (1 ∷ 0 ∷ []) ∷ []
 unfolding told
 a_frame_below_a_capture_counts_as_entered_here = refl
 

@@ -1,7 +1,8 @@
 -- The while pass, each example named by what it shows.
 use Rattle.std.specs.Prelude.{◌≡◌, [], ◌∷◌, refl}
 use Rattle.line_defs.specs.Machine.{Machine}
-use Rattle.line_examples.specs.Short.{group, single, block, lasting, with_content, capture, inside, with_end_captures, grammar, with_budget, line, stopped, token, told}
+use Rattle.line_examples.specs.Short.{group, single, block, lasting, with_content, capture, inside, with_end_captures}
+use Rattle.line_examples.specs.Short.{grammar, with_budget, line, stopped, token, told}
 
 abbrev quotes : Machine
 quotes = grammar
@@ -44,7 +45,8 @@ lasting_in_one_another = grammar
     ∷ single "g" "\\G."
     ∷ single "d" "d" ∷ [])
 
-pub the_pass_goes_from_the_outside_in_and_moves_the_anchor : told lasting_in_one_another ("ac" ∷ "bd" ∷ "bbd" ∷ "d" ∷ [])
+pub the_pass_goes_from_the_outside_in_and_moves_the_anchor : told lasting_in_one_another
+    ("ac" ∷ "bd" ∷ "bbd" ∷ "d" ∷ [])
     ≡ line (token 0 1 "s w1" ∷ token 1 2 "s w1 w2 w3" ∷ []) (2 ∷ 1 ∷ 0 ∷ [])
     ∷ line (token 0 1 "s w1 w2 w3" ∷ token 1 2 "s w1 w2 w3 g" ∷ []) (2 ∷ 1 ∷ 0 ∷ [])
     ∷ line (token 0 1 "s w1 w2 w3" ∷ token 1 2 "s w1 w2 w3 g" ∷ token 2 3 "s w1 w2 w3 d" ∷ []) (2 ∷ 1 ∷ 0 ∷ [])
