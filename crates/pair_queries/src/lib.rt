@@ -7,7 +7,9 @@ ghost use Rattle.answer_defs.specs.Answers.{bracket_row, brackets_in, is_in_line
 pub mod places;
 pub mod ranges;
 
-pub use answer_defs::{Answer, BracketRow, MarkAt, Question, Rows};
+pub use answer_defs::{
+    Answer, BracketRow, GuideRow, GuideRows, MarkAt, PairRow, PairRows, Question, Rows, Twin,
+};
 use bracket_lex::{Paired, Row};
 pub use places::{around, jump, level_at, match_at};
 pub use ranges::{guides, pairs};
