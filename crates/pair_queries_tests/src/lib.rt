@@ -52,6 +52,7 @@ mod tests {
         assert_eq!(rt; jump(&rows, at(2, 0)), Some(at(3, 2)));
         assert_eq!(rt; jump(&rows, at(0, 0)), Some(at(0, 10)));
         assert_eq!(rt; jump(&rows, at(6, 0)), None);
+        assert!(rt; rows.rows().len() == 13);
         assert_eq!(rt; level_at(&rows, at(1, 8)), 3);
         assert_eq!(rt; level_at(&rows, at(6, 0)), 1);
         Ok(())
