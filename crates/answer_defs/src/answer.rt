@@ -1,8 +1,4 @@
-ghost use Rattle.std.specs.Prelude.{◌≡◌, [], ◌∷◌, ◌++◌, OnOk, OnErr};
-
-use std::alloc::{AllocError, Global};
-use std::marker::Model;
-use text_pos::Chars;
+use text_pos::{Chars, Items};
 
 /// What can be asked of a text. Lines count from 0, and `to` is the last line of a range. The questions are
 /// this project's own.
@@ -33,43 +29,7 @@ pub struct BracketRow {
 }
 
 /// Brackets in order of the text.
-#[derive(Debug, Drop)]
-pub struct Rows {
-    items: Vec<BracketRow>,
-}
-
-impl Model for Rows {
-    ghost use Rattle.std.specs.Prelude.{List};
-    ghost use Rattle.answer_defs.specs.declared.answer.BracketRow.{BracketRow};
-
-    ghost Value = { List BracketRow };
-
-    ghost view = { λ r. r.items.items };
-}
-
-impl Rows {
-    pub fn new(alloc: Global) -> Rows
-        ensures { result ≡ [] }
-    {
-        Rows {
-            items: Vec::new(alloc),
-        }
-    }
-
-    pub fn push(&mut self, item: BracketRow) -> Result<(), AllocError>
-        ensures ok { OnOk result (self.new ≡ self.old ++ item ∷ []) }
-        ensures err { OnErr result (self.new ≡ self.old) }
-    {
-        self.items.push(item)?;
-        Ok(())
-    }
-
-    pub fn as_slice(&self) -> &[BracketRow]
-        ensures { result.now ≡ self.now }
-    {
-        self.items.as_slice()
-    }
-}
+pub type Rows = Items<BracketRow>;
 
 /// What is answered to a question. The answers are this project's own.
 #[derive(Debug, Drop)]

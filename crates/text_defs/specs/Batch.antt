@@ -1,9 +1,9 @@
 -- A batch is a list of edits, each a span and a text for it. All spans are places of the text before the
 -- batch, and all are replaced at once. That it is so, and the order of refusals, is this project's own.
-use Rattle.std.specs.Prelude.{ℕ, zero, suc, ◌+◌, ◌-◌, ◌^◌, ◌==◌, List, [], ◌∷◌, ◌++◌, length, min, Bool, true, false, not, ◌&&◌, ◌||◌, nat_lt, nat_le, take, drop, if◌then◌else◌, Option, Some, None}
+use Rattle.std.specs.Prelude.{ℕ, suc, ◌-◌, ◌^◌, List, [], ◌∷◌, ◌++◌, length, min, Bool, true, false, not, ◌&&◌, ◌||◌, nat_lt, nat_le, take, drop, if◌then◌else◌, Option, Some, None}
 use Rattle.text_pos.specs.declared.length.Pos.{Pos}
 use Rattle.text_pos.specs.declared.length.Span.{Span}
-use Rattle.text_defs.specs.Text.{norm, lines_of, line_count, most_chars, most_lines}
+use Rattle.text_defs.specs.Text.{norm, line_count, most_chars, most_lines}
 use Rattle.text_defs.specs.Place.{holds, offset_of, is_before}
 
 -- an edit: these characters take the place of the span

@@ -1,6 +1,6 @@
 -- Places. The place of an offset is the number of LFs before it and the number of characters since the
 -- last of these. Columns count Unicode scalar values, which is this project's own.
-use Rattle.std.specs.Prelude.{ℕ, zero, suc, ◌+◌, ◌==◌, List, [], ◌∷◌, ◌++◌, length, Bool, true, false, ◌&&◌, ◌||◌, nat_lt, nat_le, take, if◌then◌else◌, sum_by}
+use Rattle.std.specs.Prelude.{ℕ, ◌+◌, ◌==◌, List, length, Bool, ◌&&◌, ◌||◌, nat_lt, nat_le, take, sum_by}
 use Rattle.text_pos.specs.declared.length.Pos.{Pos}
 use Rattle.text_defs.specs.Text.{lines_of, line_of, line_count, whole_lines, unfinished}
 

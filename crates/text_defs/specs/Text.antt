@@ -1,8 +1,9 @@
 -- A text is one list of characters, given by their codes. It has no objects for lines: its lines are the
 -- pieces between line feeds. Which ends count, and that a leading U+FEFF falls away, is this project's own.
-use Rattle.std.specs.Prelude.{ℕ, zero, suc, ◌+◌, ◌^◌, ◌==◌, ◌&&◌, nat_le, Bool, true, false, List, [], ◌∷◌, length, if◌then◌else◌}
+use Rattle.std.specs.Prelude.{ℕ, zero, suc, ◌==◌, ◌&&◌, nat_le, Bool, false, List, [], ◌∷◌, length, if◌then◌else◌}
 use Rattle.std.specs.Str.{chars}
 use Rattle.std.specs.Str.Lossy.{utf8_valid_len}
+use Rattle.text_defs.specs.declared.limits.TheConstants.{MOST_CHARS, MOST_LINES, MOST_LINE_BYTES}
 
 -- whether the list begins with this item
 abbrev pub begins_with : ℕ → List ℕ → Bool
@@ -59,12 +60,12 @@ line_of text n = line_in (lines_of text) n
 abbrev pub line_count : List ℕ → ℕ
 line_count text = length (lines_of text)
 
--- the largest text: 2^22 characters and 2^18 lines
+-- the largest text
 abbrev pub most_chars : ℕ
-most_chars = 2 ^ 22
+most_chars = MOST_CHARS
 
 abbrev pub most_lines : ℕ
-most_lines = 2 ^ 18
+most_lines = MOST_LINES
 
 -- all of the list but its last item
 abbrev pub all_but_last : {A : Type 0} → List A → List A
@@ -87,7 +88,7 @@ unfinished bytes = last_line (lines_of bytes)
 
 -- the most bytes that a line of a script may have
 abbrev pub most_line_bytes : ℕ
-most_line_bytes = 1048576
+most_line_bytes = MOST_LINE_BYTES
 
 -- whether a file's bytes are a text that is small enough
 abbrev pub is_text : List ℕ → Bool

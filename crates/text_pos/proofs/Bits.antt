@@ -1,8 +1,10 @@
 -- The sets of kinds that `|`, `&`, `!` and `<<` make.
-use Rattle.std.proofs.Common.{◌≡◌, ℕ, ◌-◌, ◌*◌, ◌%◌, ◌^◌, ◌<◌, ◌≤◌, ◌≢◌, ◌&&◌, ◌||◌, ◌==◌, ◌↔◌, min, max, false, not, IsTrue, bit_and, bit_or, w64, refl, arith, sym, ◌∙◌, inl, inr, nat_lt}
+use Rattle.std.proofs.Common.{◌≡◌, ℕ, ◌-◌, ◌*◌, ◌%◌, ◌^◌, ◌<◌, ◌≤◌, ◌≢◌, ◌&&◌, ◌||◌, ◌==◌, ◌↔◌, min, max, false, not}
+use Rattle.std.proofs.Common.{IsTrue, bit_and, bit_or, w64, refl, arith, sym, ◌∙◌, inl, inr, nat_lt}
 use Rattle.std.specs.Int.{bit_at, bit_not, trailing_zeros}
 use Rattle.std.proofs.lemmas.Bool.Decides.{nat_tests, eqb_tells}
-use Rattle.std.proofs.lemmas.Nat.Bits.{bit_at_or, bit_at_and, bit_at_not, bit_at-lt, bit_at-pow_same, bit_at-pow_other, bit_at-trailing_zeros, bit_at-zero, bit_at_above}
+use Rattle.std.proofs.lemmas.Nat.Bits.{bit_at_or, bit_at_and, bit_at_not, bit_at-lt, bit_at-pow_same, bit_at-pow_other}
+use Rattle.std.proofs.lemmas.Nat.Bits.{bit_at-trailing_zeros, bit_at-zero, bit_at_above}
 use Rattle.std.proofs.lemmas.Nat.{or_lt}
 use Rattle.std.proofs.Math.Pow.{pow-lt}
 use Rattle.text_pos.specs.KindSet.{is_set}
@@ -26,7 +28,8 @@ pub is_set_not : (a k : ℕ) → a < 2 ^ 64 → k < 64 → is_set (bit_not w64 a
 is_set_not a k p q = rw (bit_at_not w64 a k p q) (rest_is_one (bit_at a k) (bit_at-lt a k))
 
 -- `a & !b`, where the bits of b are known only below 64
-pub is_set_but : (a b k : ℕ) → b < 2 ^ 64 → k < 64 → is_set (bit_and a (bit_not w64 b)) k ≡ (is_set a k && not (is_set b k))
+pub is_set_but : (a b k : ℕ) → b < 2 ^ 64 → k < 64 → is_set (bit_and a (bit_not w64 b)) k
+    ≡ (is_set a k && not (is_set b k))
 is_set_but a b k p q = rw (is_set_and a (bit_not w64 b) k, is_set_not b k p q) refl
 
 pub or_fits : (a b : ℕ) → a < 2 ^ 64 → b < 2 ^ 64 → bit_or a b < 2 ^ 64
@@ -72,10 +75,15 @@ test_is : (n : ℕ) → IsTrue (not (n == 0)) ↔ (n ≢ 0)
 test_is n = grind (arith, nat_tests)
 
 pub some_is_set : (n : ℕ) → n < 2 ^ 64 → IsTrue (not (n == 0)) ↔ ((k : ℕ) × IsTrue (is_set n k))
-some_is_set n p = (λ t. lowest_held n p (let h = (test_is n).0 t in omega arith), λ (k, h). (test_is n).1 (held_not_zero n k h))
+some_is_set n p = (
+  λ t. lowest_held n p (let h = (test_is n).0 t in
+      omega arith),
+  λ (k, h). (test_is n).1 (held_not_zero n k h),
+)
 
 both_is_set : (a b : ℕ) → ((k : ℕ) × IsTrue (is_set (bit_and a b) k)) ↔ ((k : ℕ) × IsTrue (is_set a k && is_set b k))
 both_is_set a b = (λ (k, h). (k, rw (← is_set_and a b k) h), λ (k, h). (k, and_held a b k h))
 
-pub meets_when : (a b : ℕ) (r : Type 0) → r ↔ ((k : ℕ) × IsTrue (is_set (bit_and a b) k)) → r ↔ ((k : ℕ) × IsTrue (is_set a k && is_set b k))
+pub meets_when : (a b : ℕ) (r : Type 0) → r ↔ ((k : ℕ) × IsTrue (is_set (bit_and a b) k)) → r
+    ↔ ((k : ℕ) × IsTrue (is_set a k && is_set b k))
 meets_when a b r e = (λ t. (both_is_set a b).0 (e.0 t), λ s. e.1 ((both_is_set a b).1 s))

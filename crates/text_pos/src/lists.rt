@@ -1,102 +1,72 @@
-ghost use Rattle.std.specs.Prelude.{◌≡◌, [], ◌∷◌, ◌++◌, List, ℕ, IfOk, OnOk, OnErr};
+ghost use Rattle.std.specs.Prelude.{◌≡◌, [], ◌∷◌, ◌++◌, IfOk, OnOk, OnErr};
 
 use std::alloc::{AllocError, Global};
 use std::marker::Model;
 
-/// A list of bytes.
+/// A list. Clauses see its items in order, also where it is a field of another value.
 #[derive(Debug, Drop)]
-pub struct Bytes {
-    items: Vec<u8>,
+pub struct Items<T> {
+    items: Vec<T>,
 }
 
-impl Model for Bytes {
-    ghost Value = { List ℕ };
+impl<T> Model for Items<T> {
+    ghost use Rattle.std.specs.Prelude.{List};
+    ghost use Rattle.std.specs.Coded.{coded_list};
 
-    ghost view = { λ b. b.items.items };
+    ghost Value = { List T };
+
+    ghost coded = { coded_list T.code };
+
+    ghost view = { λ list. list.items.items };
 }
 
-impl Bytes {
-    pub fn new(alloc: Global) -> Bytes
+impl<T> Items<T> {
+    pub fn new(alloc: Global) -> Items<T>
         ensures { result ≡ [] }
     {
-        Bytes {
+        Items {
             items: Vec::new(alloc),
         }
     }
 
-    /// A copy of these bytes.
-    pub fn of(alloc: Global, bytes: &[u8]) -> Result<Bytes, AllocError>
-        ensures { IfOk result (λ b. b ≡ bytes.now) }
+    pub fn as_slice(&self) -> &[T]
+        ensures { result.now ≡ self.now }
     {
-        Ok(Bytes {
-            items: Vec::from_slice(alloc, bytes)?,
-        })
+        self.items.as_slice()
     }
+}
 
-    pub fn push(&mut self, item: u8) -> Result<(), AllocError>
+impl<T: Drop> Items<T> {
+    pub fn push(&mut self, item: T) -> Result<(), AllocError>
         ensures ok { OnOk result (self.new ≡ self.old ++ item ∷ []) }
         ensures err { OnErr result (self.new ≡ self.old) }
     {
         self.items.push(item)?;
         Ok(())
     }
+}
 
-    /// Adds the bytes at the end.
-    pub fn append(&mut self, bytes: &[u8]) -> Result<(), AllocError>
-        ensures ok { OnOk result (self.new ≡ self.old ++ bytes.now) }
+impl<T: Copy> Items<T> {
+    /// A copy of these items.
+    pub fn of(alloc: Global, items: &[T]) -> Result<Items<T>, AllocError>
+        ensures { IfOk result (λ list. list ≡ items.now) }
+    {
+        Ok(Items {
+            items: Vec::from_slice(alloc, items)?,
+        })
+    }
+
+    /// Adds the items at the end.
+    pub fn append(&mut self, items: &[T]) -> Result<(), AllocError>
+        ensures ok { OnOk result (self.new ≡ self.old ++ items.now) }
         ensures err { OnErr result (self.new ≡ self.old) }
     {
-        self.items.extend_from_slice(bytes)
-    }
-
-    pub fn as_slice(&self) -> &[u8]
-        ensures { result.now ≡ self.now }
-    {
-        self.items.as_slice()
+        self.items.extend_from_slice(items)
     }
 }
+
+/// A list of bytes.
+pub type Bytes = Items<u8>;
 
 /// A list of characters.
-#[derive(Debug, Drop)]
-pub struct Chars {
-    items: Vec<char>,
-}
-
-impl Model for Chars {
-    ghost Value = { List ℕ };
-
-    ghost view = { λ c. c.items.items };
-}
-
-impl Chars {
-    pub fn new(alloc: Global) -> Chars
-        ensures { result ≡ [] }
-    {
-        Chars {
-            items: Vec::new(alloc),
-        }
-    }
-
-    /// A copy of these characters.
-    pub fn of(alloc: Global, chars: &[char]) -> Result<Chars, AllocError>
-        ensures { IfOk result (λ c. c ≡ chars.now) }
-    {
-        Ok(Chars {
-            items: Vec::from_slice(alloc, chars)?,
-        })
-    }
-
-    pub fn push(&mut self, item: char) -> Result<(), AllocError>
-        ensures ok { OnOk result (self.new ≡ self.old ++ item ∷ []) }
-        ensures err { OnErr result (self.new ≡ self.old) }
-    {
-        self.items.push(item)?;
-        Ok(())
-    }
-
-    pub fn as_slice(&self) -> &[char]
-        ensures { result.now ≡ self.now }
-    {
-        self.items.as_slice()
-    }
-}
+pub type Chars = Items<char>;

@@ -1,0 +1,12 @@
+pub mod Captures
+pub mod EndTexts
+pub mod Frames
+pub mod Injections
+pub mod Line
+pub mod Machine
+pub mod Runs
+pub mod ScopeTexts
+pub mod Search
+pub mod Tokens
+pub mod Turns
+pub mod WhilePass

@@ -1,0 +1,9 @@
+pub mod AnchorExamples
+pub mod CaptureExamples
+pub mod InjectionExamples
+pub mod LimitExamples
+pub mod RuleExamples
+pub mod ScopeTextExamples
+pub mod Short
+pub mod StopExamples
+pub mod WhileExamples

@@ -1,0 +1,2 @@
+//! Worked examples of the run over a line, each a theorem.
+#![tactic(auto)]
