@@ -1,8 +1,8 @@
-ghost use Rattle.std.specs.Prelude.{◌≡◌, ◌<◌, ◌≤◌, ◌+◌, ◌^◌, [], ◌∷◌, ◌++◌, List, length, take, drop, slice_index_or, slice_set, IfOk, OnOk, OnErr};
+ghost use Rattle.std.specs.Prelude.{◌≡◌, ◌<◌, ◌≤◌, ◌+◌, [], ◌∷◌, ◌++◌, List, length, take, drop, slice_index_or, slice_set, IfOk, OnOk, OnErr};
 ghost use Rattle.bracket_lex.specs.MarkedLine.{MarkedLine, text_end};
 
 use crate::line_marks::LineMarks;
-use line_list::{Items, LineList, Shared};
+use line_list::{Items, LineList, MOST_ITEMS, Shared};
 use std::alloc::{AllocError, Global};
 use std::marker::Model;
 use text_pos::Pos;
@@ -34,7 +34,7 @@ impl MarkLines {
     /// The number of lines.
     pub fn len(&self) -> usize
         ensures count { result ≡ length self.now }
-        ensures bound { length self.now ≤ 2 ^ 31 }
+        ensures bound { length self.now ≤ MOST_ITEMS }
     {
         self.lines.len()
     }
@@ -50,13 +50,13 @@ impl MarkLines {
     /// The lines in order.
     pub fn iter(&self) -> Items<'_, Shared<LineMarks>>
         ensures lines { result ≡ self.now }
-        ensures bound { length self.now ≤ 2 ^ 31 }
+        ensures bound { length self.now ≤ MOST_ITEMS }
     {
         self.lines.iter()
     }
 
     pub fn push(&mut self, line: LineMarks) -> Result<(), AllocError>
-        requires { length self.old < 2 ^ 31 }
+        requires { length self.old < MOST_ITEMS }
         ensures ok { OnOk result (self.new ≡ self.old ++ line ∷ []) }
         ensures err { OnErr result (self.new ≡ self.old) }
     {
@@ -72,7 +72,7 @@ impl MarkLines {
         count: usize,
     ) -> Result<(), AllocError>
         requires within { from + count ≤ length lines.now }
-        requires fits { length self.old + count ≤ 2 ^ 31 }
+        requires fits { length self.old + count ≤ MOST_ITEMS }
         ensures { OnOk result (self.new ≡ self.old ++ take count (drop from lines.now)) }
     {
         self.lines.push_run(&lines.lines, from, count)

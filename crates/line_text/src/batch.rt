@@ -11,10 +11,10 @@ use crate::before::Before;
 use crate::carry::Carry;
 use crate::draft::Draft;
 use crate::edit::{Edit, EditRefusal};
-use crate::read::{MOST_CHARS, MOST_LINES};
 use crate::size::{Size, size_of};
 use crate::text::Text;
 use std::alloc::{AllocError, Global};
+use text_defs::{MOST_CHARS, MOST_LINES};
 use text_pos::{Pos, Span};
 
 /// A text after a batch, and the lines that the batch carries.

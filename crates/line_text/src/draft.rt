@@ -1,4 +1,4 @@
-ghost use Rattle.std.specs.Prelude.{◌≡◌, ◌≢◌, ◌+◌, ◌-◌, ◌^◌, ◌≤◌, ℕ, List, [], ◌∷◌, ◌++◌, length, take, drop, OnOk, OnErr, IfOk};
+ghost use Rattle.std.specs.Prelude.{◌≡◌, ◌≢◌, ◌+◌, ◌-◌, ◌≤◌, ℕ, List, [], ◌∷◌, ◌++◌, length, take, drop, OnOk, OnErr, IfOk};
 ghost use Rattle.std.specs.Str.{chars};
 ghost use Rattle.text_defs.specs.Text.{line_count, most_chars, most_lines};
 ghost use Rattle.line_text.specs.LineEnds.{normed};
@@ -10,6 +10,7 @@ use line_list::{LineList, MOST_ITEMS, Share, Shared};
 use std::alloc::{AllocError, Global};
 use std::marker::Model;
 use std::mem;
+use text_defs::MOST_LINES;
 
 /// A text that is being put together. Clauses see its characters as one list.
 #[derive(Drop)]
@@ -100,7 +101,7 @@ impl Draft {
         count: usize,
     ) -> Result<(), AllocError>
         requires within { from + count ≤ length lines.now }
-        requires few { length lines.now ≤ 2 ^ 18 }
+        requires few { length lines.now ≤ MOST_LINES }
         requires plain { ArePlain lines.now }
         ensures { OnOk result (self.new ≡ self.old ++ ended (take count (drop from lines.now))) }
     {

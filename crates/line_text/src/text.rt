@@ -1,4 +1,4 @@
-ghost use Rattle.std.specs.Prelude.{◌≡◌, ◌≢◌, ◌^◌, ◌++◌, ◌<◌, ◌≤◌, All, length, IfOk};
+ghost use Rattle.std.specs.Prelude.{◌≡◌, ◌≢◌, ◌++◌, ◌<◌, ◌≤◌, All, length, IfOk};
 ghost use Rattle.text_defs.specs.Text.{line_count, line_of};
 ghost use Rattle.text_defs.specs.Place.{holds};
 ghost use Rattle.line_text.specs.PlaceLaws.{EachOffsetHasItsPlace, EachPlaceHasItsOffset};
@@ -6,6 +6,7 @@ ghost use Rattle.line_text.specs.PlaceLaws.{EachOffsetHasItsPlace, EachPlaceHasI
 use line_list::{LineList, Shared};
 use std::alloc::{AllocError, Global};
 use std::marker::Model;
+use text_defs::{MOST_CHARS, MOST_LINES};
 use text_pos::Pos;
 
 /// The characters of one line, without its end.
@@ -76,8 +77,8 @@ impl Text {
         ensures lines { result.now ≡ lines_of self.now }
         ensures plain { ArePlain result.now }
         ensures some { 0 < length result.now }
-        ensures few { length result.now ≤ 2 ^ 18 }
-        ensures few_chars { length self.now ≤ 2 ^ 22 }
+        ensures few { length result.now ≤ MOST_LINES }
+        ensures few_chars { length self.now ≤ MOST_CHARS }
     {
         &self.lines
     }
@@ -86,7 +87,7 @@ impl Text {
     pub fn lines(&self) -> u32
         ensures count { result ≡ line_count self.now }
         ensures some { 0 < result }
-        ensures few { result ≤ 2 ^ 18 }
+        ensures few { result ≤ MOST_LINES }
     {
         self.kept_lines().len() as u32
     }
@@ -94,7 +95,7 @@ impl Text {
     /// The number of characters of the flat text.
     pub fn chars(&self) -> u32
         ensures count { result ≡ length self.now }
-        ensures few { result ≤ 2 ^ 22 }
+        ensures few { result ≤ MOST_CHARS }
     {
         self.chars
     }
@@ -105,7 +106,7 @@ impl Text {
         ensures line { result.now ≡ line_of self.now n }
         ensures no_lf { All (λ c. c ≢ 10) result.now }
         ensures no_cr { All (λ c. c ≢ 13) result.now }
-        ensures few { length result.now ≤ 2 ^ 22 }
+        ensures few { length result.now ≤ MOST_CHARS }
     {
         self.shared_line(n).get()
     }
@@ -115,7 +116,7 @@ impl Text {
         requires { n < line_count self.now }
         ensures line { result.now ≡ line_of self.now n }
         ensures plain { IsPlain result.now }
-        ensures few { length result.now ≤ 2 ^ 22 }
+        ensures few { length result.now ≤ MOST_CHARS }
     {
         self.kept_lines().get(n as usize)
     }

@@ -12,8 +12,11 @@ loop-b-preserved c =
     let b = c.b-item.result in
     let below : c.loop-b.b-index < length items = omega arith in
     elim c.if-stands.branch [
-      | then-stands w ↦ ap option_copied w.longest-is ∙ w.longer-longest.ensures ∙ ap (λ o. or_longer o b) c.loop-b.invariant
-          ∙ sym (longest_yes (stands_at c.args.rest.now) items c.loop-b.b-index b below c.b-item.is (sym w.if-stands.ensures))
+      | then-stands w ↦ ap option_copied w.longest-is ∙ w.longer-longest.ensures
+          ∙ ap (λ o. or_longer o b) c.loop-b.invariant
+          ∙ sym (longest_yes (stands_at c.args.rest.now) items c.loop-b.b-index b below c.b-item.is
+          (sym w.if-stands.ensures))
       | else-stands w ↦ ap option_copied w.longest-is ∙ c.loop-b.invariant
-          ∙ sym (longest_no (stands_at c.args.rest.now) items c.loop-b.b-index b below c.b-item.is (sym w.if-stands.ensures))
+          ∙ sym (longest_no (stands_at c.args.rest.now) items c.loop-b.b-index b below c.b-item.is
+          (sym w.if-stands.ensures))
     ]

@@ -14,7 +14,8 @@ overflow_cast-end c =
 pub returns-in-None-clause-marks : goal.returns-in-None-clause-marks
 returns-in-None-clause-marks c =
     let found = rw (rest_is c.args.column c.args.line.now) at (sym c.in-None.ensures) in
-    ap (λ ms. c.args.marks.now.items ++ ms) (no_mark c.args.self.now c.args.column c.args.line.now c.requires.inside found)
+    ap (λ ms. c.args.marks.now.items ++ ms) (no_mark c.args.self.now c.args.column c.args.line.now c.requires.inside
+    found)
 
 pub returns-in_ok-push-in-Some-clause-bound : goal.returns-in_ok-push-in-Some-clause-bound
 returns-in_ok-push-in-Some-clause-bound c =
@@ -28,5 +29,6 @@ returns-in_ok-push-in-Some-clause-marks c =
     let found = rw (rest_is c.args.column c.args.line.now) at (sym c.in-Some.ensures) in
     let fits = bracket_fits c.args.self.now (drop c.args.column c.args.line.now) c.in-Some.b.now found in
     let text = ap length c.as_slice.ensures in
-    one_mark c.args.self.now c.args.column (length c.as_slice.result.now) c.args.line.now c.in-Some.b.now c.args.marks.now.items c.push.new.self.items
+    one_mark c.args.self.now c.args.column (length c.as_slice.result.now) c.args.line.now c.in-Some.b.now
+    c.args.marks.now.items c.push.new.self.items
     c.requires.inside found (sym text) (omega (arith, fits.0, text)) c.in_ok-push-in-Some.ensures.items

@@ -13,7 +13,8 @@ loop-line-preserved c =
     let count = text_bound c.loop-line.n lines rest line c.marks.result.now at marks in
     record {
       limit = c.in_ok-take_line.ensures.limit ∙ c.loop-line.invariant.limit;
-      rows = text_rows c.args.limit c.loop-line.n c.loop-line.open_marks c.take_line.new.self lines rest line c.marks.result.now at
+      rows = text_rows c.args.limit c.loop-line.n c.loop-line.open_marks c.take_line.new.self lines rest line
+          c.marks.result.now at
           marks kept.rows kept.entries ∙ c.loop-line.invariant.rows;
       bound = let rows = c.in_ok-take_line.ensures.bound in
           let total = c.loop-line.invariant.bound in

@@ -9,8 +9,10 @@ use Rattle.bracket_lex.proofs.paired.Paired.of.Given as goal
 abbrev pub invariant-loop-line : goal.invariant-loop-line
 invariant-loop-line l = record {
   limit : l.open_marks.limit ≡ l.limit;
-  rows : l.open_marks.rows ++ placed_from l.limit (open_in l.open_marks) (marks_of_lines l.n (map (λ line. line.marks) l.line-iterator))
+  rows : l.open_marks.rows ++ placed_from l.limit (open_in l.open_marks)
+      (marks_of_lines l.n (map (λ line. line.marks) l.line-iterator))
       ≡ placed_from l.limit nothing_open (marks_in l.lines);
-  bound : length l.open_marks.rows + length (marks_of_lines l.n (map (λ line. line.marks) l.line-iterator)) ≤ length (marks_in l.lines);
+  bound : length l.open_marks.rows + length (marks_of_lines l.n (map (λ line. line.marks) l.line-iterator)) ≤ length
+      (marks_in l.lines);
   lines : l.n + length l.line-iterator ≡ length l.lines;
 }

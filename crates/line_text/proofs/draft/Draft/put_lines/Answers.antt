@@ -10,7 +10,8 @@ invariant_of-self-then-is_empty c =
     let run = take c.args.count (drop c.args.from c.args.lines.now) in
     let held = c.self.invariant in
     let plain = ArePlain-take c.args.count _ (ArePlain-drop c.args.from c.args.lines.now c.requires.plain) in
-    rw (c.in_ok-self-inside.ensures, c.replace-done.ensures.value) (ArePlain-append c.self.inside.done run held.0 plain, held.1, held.2)
+    rw (c.in_ok-self-inside.ensures, c.replace-done.ensures.value)
+    (ArePlain-append c.self.inside.done run held.0 plain, held.1, held.2)
 
 pub returns-then-is_empty : goal.returns-then-is_empty
 returns-then-is_empty c =
@@ -19,14 +20,16 @@ returns-then-is_empty c =
     grind (arith, nat_tests, c.is_empty.ensures, c.if-is_empty.true, c.self.inside.current.ok.0) in
     run_added c.self.inside.done c.in_ok-self-inside.field-0 run _ c.args.self.now
     (rw c.replace-done.ensures.value at c.in_ok-self-inside.ensures)
-    (nothing_open c.self.inside.shared c.self.inside.current.items (c.is_none.ensures ∙ ap not c.if-is_none.true) empty) c.self.view_is
+    (nothing_open c.self.inside.shared c.self.inside.current.items (c.is_none.ensures ∙ ap not c.if-is_none.true)
+    empty) c.self.view_is
 
 pub put_part-requires-clause-plain : goal.put_part-requires-clause-plain
 put_part-requires-clause-plain c =
     let lines = c.args.lines.now in
     let n = c.args.from + c.loop-n.n in
     let there : n < length lines = omega (arith, c.requires.within, c.loop-n-test.true) in
-    rw (c.get-line.ensures ∙ line_in-get_or lines n c.get-line.result.now there) (line_in-IsPlain lines n c.requires.plain)
+    rw (c.get-line.ensures ∙ line_in-get_or lines n c.get-line.result.now there)
+    (line_in-IsPlain lines n c.requires.plain)
 
 pub loop-n-preserved : goal.loop-n-preserved
 loop-n-preserved c =

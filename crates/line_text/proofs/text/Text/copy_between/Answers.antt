@@ -17,7 +17,8 @@ returns-then-from-to c =
     let line = c.shared_line-first.ensures.line ∙ ap (line_in lines) c.if-from-to.true in
     let whole = c.args.draft.now ++ piece lines from.line from.col (start lines to.line + to.col) in
     rw (joined-lines_of text) at (OnOk-map c.put_part.result (λ e. copied_part lines from.line from.col to
-    c.shared_line-first.result.now c.args.draft.now c.put_part.new.self whole there c.if-from-to.true cols line e refl) c.put_part.ensures)
+    c.shared_line-first.result.now c.args.draft.now c.put_part.new.self whole there c.if-from-to.true cols line e
+    refl) c.put_part.ensures)
 
 -- from one line to a later one
 pub returns : goal.returns
@@ -34,7 +35,8 @@ returns c =
     let len = ap length (c.chars.ensures ∙ c.get.ensures) in
     let run = rw c.kept_lines.ensures.lines at c.in_ok-put_lines.ensures in
     rw (joined-lines_of text) at (OnOk-map c.put_part-3.result (λ e. copied_lines lines from.line from.col
-    (length c.chars.result.now) count to first c.shared_line.result.now c.args.draft.now c.put_part-2.new.self c.put.new.self
+    (length c.chars.result.now) count to first c.shared_line.result.now c.args.draft.now c.put_part-2.new.self
+    c.put.new.self
     c.put_lines.new.self c.put_part-3.new.self there at (IsPlace-holds text from c.requires.from).col
     c.shared_line-first.ensures.line len c.shared_line.ensures.line c.in_ok-put_part.ensures c.in_ok-put.ensures run e)
     c.put_part-3.ensures)

@@ -16,9 +16,16 @@ returns-clause-line c = is_line c
 
 pub returns-clause-plain : goal.returns-clause-plain
 returns-clause-plain c =
-    rw (is_line c) (line_in-IsPlain (lines_of c.args.self.now) c.args.n (rw c.kept_lines.ensures.lines at c.kept_lines.ensures.plain))
+    rw (is_line c) (line_in-IsPlain (lines_of c.args.self.now) c.args.n
+    (rw c.kept_lines.ensures.lines at c.kept_lines.ensures.plain))
 
 pub returns-clause-few : goal.returns-clause-few
 returns-clause-few c =
     let text = c.args.self.now in
-    omega (arith, ap length (is_line c), length-line_in (lines_of text) c.args.n, ap length (joined-lines_of text), c.kept_lines.ensures.few_chars)
+    omega (
+      arith,
+      ap length (is_line c),
+      length-line_in (lines_of text) c.args.n,
+      ap length (joined-lines_of text),
+      c.kept_lines.ensures.few_chars,
+    )

@@ -1,4 +1,4 @@
-use super::*;
+use line_text::{Edit, EditRefusal, Run, Text, TextRefusal};
 use std::alloc::{AllocError, Global};
 use std::test::Fail;
 use text_pos::{Pos, Span};
