@@ -49,8 +49,7 @@ shift n at c p ps q y = record {
   number = omega arith;
   opener = y.opener;
   there = y.there;
-  kind =
-      y.kind;
+  kind = y.kind;
   role = y.role;
   closes = y.closes;
   level = y.level;
@@ -70,8 +69,7 @@ lone state p ps none later (suc k) at c q e there closes = elim (later k at c q 
     is_entry = x.is_entry;
     row = x.row;
     level = x.level;
-    own =
-        x.own;
+    own = x.own;
     kind = x.kind;
     first = closes_none c state.rows p ps none ∙ x.first;
   })
@@ -83,8 +81,7 @@ opened : (state : Open) (kind : ℕ) (p : Placed) (ps : List Placed) → p.mark.
     ≡ length state.entries → p.own ≡ of_kind kind state.entries → p.closes ≡ None
     → EachClosed (record {
       rows = state.rows + 1;
-      entries =
-          record { row = state.rows; kind = kind } ∷ state.entries;
+      entries = record { row = state.rows; kind = kind } ∷ state.entries;
     }) ps → EachClosed state (p ∷ ps)
 opened state kind p ps role level own none later zero at c q e there closes =
     absurd (let is : p.closes ≡ Some c = cc in cc)
@@ -114,8 +111,7 @@ opened state kind p ps role level own none later (suc k) at c q e there closes =
           below = x.below;
           is_entry = deeper;
           row = x.row;
-          level =
-              x.level;
+          level = x.level;
           own = x.own;
           kind = x.kind;
           first = closes_none c state.rows p ps none ∙ x.first;
@@ -197,13 +193,11 @@ mark_by limit state m ms (Opener kind) is stack later = elim (cases_Bool (nat_le
         mark = m;
         level = length state.entries;
         own = of_kind kind state.entries;
-        closes =
-            None;
+        closes = None;
       })
       (placed_from limit (record {
         rows = state.rows + 1;
-        entries =
-            record { row = state.rows; kind = kind } ∷ state.entries;
+        entries = record { row = state.rows; kind = kind } ∷ state.entries;
       }) ms) is refl refl refl
       (later (record { rows = state.rows + 1; entries = record { row = state.rows; kind = kind } ∷ state.entries })
       (omega arith, stack)))

@@ -97,7 +97,8 @@ insides_end_at_the_first_closer limit end ms i l m opener closer o h around behi
       | inl pair ↦ absurd (let before = pair.before in omega arith)
       | inr pair ↦
           inner_is limit end ms i opener o
-          ∙ first_at end (placed_from limit nothing_open ms) i l m pair.closer _ refl pair.closer_there pair.closes around
+          ∙ first_at end (placed_from limit nothing_open ms) i l m pair.closer _ refl pair.closer_there pair.closes
+          around
           behind (λ off. stays (closed_off limit end ms i l off))
           ∙ sym (ap (λ x. x.mark.at) (closer_is end (placed_from limit nothing_open ms) m l closer pair h.there))
     ]

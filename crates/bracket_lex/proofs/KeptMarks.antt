@@ -109,8 +109,7 @@ kept_by limit state m ms (Opener kind) is few later =
     rw (lt-leb limit (length state.entries) (omega arith))
     (ap (λ rest. m ∷ rest) (later (record {
       rows = state.rows + 1;
-      entries =
-          record { row = state.rows; kind = kind } ∷ state.entries;
+      entries = record { row = state.rows; kind = kind } ∷ state.entries;
     }) (omega arith)))
 kept_by limit state m ms (Closer kinds) is few later =
     let many : length state.entries + length (filter opens ms) ≤ limit = rw is at few in

@@ -51,8 +51,7 @@ shift n x c p ps q (inl off) =
       placed = off.placed;
       there = off.there;
       closed = off.closed;
-      closes =
-          off.closes;
+      closes = off.closes;
       around = off.around;
       behind = omega arith;
       before = omega arith;
@@ -117,8 +116,7 @@ closed_entries state p ps own entry below stack role closes found later (suc x) 
             there = refl;
             closed = entry.row;
             closes = closes;
-            around =
-                off;
+            around = off;
             behind = omega arith;
             before = omega arith;
           })
@@ -220,13 +218,11 @@ mark_by limit state m ms (Opener kind) is stack later = elim (cases_Bool (nat_le
         mark = m;
         level = length state.entries;
         own = of_kind kind state.entries;
-        closes =
-            None;
+        closes = None;
       })
       (placed_from limit (record {
         rows = state.rows + 1;
-        entries =
-            record { row = state.rows; kind = kind } ∷ state.entries;
+        entries = record { row = state.rows; kind = kind } ∷ state.entries;
       }) ms) is
       (later (record { rows = state.rows + 1; entries = record { row = state.rows; kind = kind } ∷ state.entries })
       (omega arith, stack)))

@@ -38,8 +38,7 @@ off_back limit end ms k i c =
         place = c.place;
         placed = pair.closer;
         there = pair.closer_there;
-        closed =
-            c.partner;
+        closed = c.partner;
         closes = pair.closes;
         around = c.around;
         behind = omega arith;
@@ -86,8 +85,7 @@ open_entry limit end ms i k kind Is t o =
       before = o.before;
       placed = r.placed;
       there = r.there;
-      role =
-          role_of end (placed_from limit nothing_open ms) k o.opener r ∙ o.role;
+      role = role_of end (placed_from limit nothing_open ms) k o.opener r ∙ o.role;
     } in
     elim (t.new (record { row = k; kind = kind }) new) [
       | inl off ↦ absurd (o.stays (closed_off limit end ms k i off))
@@ -105,8 +103,7 @@ all_open limit end ms i level Is t is =
     (λ k holds. record {
       entry = record { row = k; kind = holds.0 };
       row = refl;
-      among =
-          open_entry limit end ms i k holds.0 Is t holds.1;
+      among = open_entry limit end ms i k holds.0 Is t holds.1;
     })
 
 open_of_kind : (limit : ℕ) (end : Pos) (ms : List Mark) (i kind own : ℕ) (Is : List Entry → Type 0)

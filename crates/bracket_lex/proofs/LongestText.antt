@@ -1,16 +1,17 @@
 -- The longest text that stands at a place.
-use Rattle.std.proofs.Common.{◌≡◌, ℕ, ◌+◌, ◌<◌, ◌≤◌, ◌==◌, ◌⊎◌, Bool, true, false, if◌then◌else◌, ltb, List, [], ◌∷◌}
+use Rattle.std.proofs.Common.{◌≡◌, ℕ, ◌+◌, ◌<◌, ◌≤◌, ◌==◌, ◌⊎◌, ◌&&◌, Bool, true, false, if◌then◌else◌, ltb, List, []}
+use Rattle.std.proofs.Common.{◌∷◌}
 use Rattle.std.proofs.Common.{◌++◌, length, take, drop, get_or, Option, Some, None, refl, sym, ap, arith, inl, inr}
 use Rattle.std.proofs.Common.{length-append, add-one, subst, nat_eq}
 use Rattle.std.specs.List.{filter, starts_with}
-use Rattle.std.proofs.lemmas.Bool.{cases_lt, cases_Bool, cases_cond, lt-ltb, le-ltb, false≢true}
+use Rattle.std.proofs.lemmas.Bool.{and_parts, cases_lt, cases_Bool, cases_cond, lt-ltb, le-ltb, false≢true}
 use Rattle.std.proofs.lemmas.Bool.Decides.{Decides-eqb, nat_tests}
 use Rattle.std.proofs.lemmas.List.Elements.{filter-append}
 use Rattle.std.proofs.lemmas.List.{append-nil}
 use Rattle.std.proofs.lemmas.Slice.Eq.{starts_is}
 use Rattle.std.proofs.Math.Seq.{take-suc}
 use Rattle.pairing_defs.specs.declared.BracketText.{BracketText}
-use Rattle.pairing_defs.specs.Marks.{stands_at, longer, longest, bracket_at}
+use Rattle.pairing_defs.specs.Marks.{all_count, stands_at, longer, longest, bracket_at}
 use Rattle.bracket_lex.specs.Longest.{or_longer}
 
 -- of three lengths
@@ -96,13 +97,19 @@ starts_fits rest text e =
 pub not_empty : (n : ℕ) → 0 < n → (n == 0) ≡ false
 not_empty n h = grind (arith, nat_tests)
 
-stands_by : (rest text : List ℕ) → (if length text == 0 then false else starts_with nat_eq rest text) ≡ true
-    → (0 < length text) × (length text ≤ length rest)
-stands_by rest [] e = absurd (false≢true e)
-stands_by rest (c ∷ cs) e =
+-- a text that passes isn't empty, and stands at the front
+pub stands_by : (rest text : List ℕ) (counted : Bool)
+    → (if length text == 0 then false else starts_with nat_eq rest text && counted) ≡ true
+    → (0 < length text) × (starts_with nat_eq rest text ≡ true) × (counted ≡ true)
+stands_by rest [] counted e = absurd (false≢true e)
+stands_by rest (c ∷ cs) counted e =
     let some : 0 < length (c ∷ cs) = omega arith in
-    (some, starts_fits rest (c ∷ cs) (rw (not_empty (length (c ∷ cs)) some) at e))
+    let both = and_parts (starts_with nat_eq rest (c ∷ cs)) counted (rw (not_empty (length (c ∷ cs)) some) at e) in
+    (some, both.0, both.1)
 
-pub bracket_fits : (texts : List BracketText) (rest : List ℕ) (b : BracketText) → bracket_at texts rest ≡ Some b
-    → (0 < length b.text) × (length b.text ≤ length rest)
-bracket_fits texts rest b e = stands_by rest b.text (longest_passes (stands_at rest) texts b e)
+pub bracket_fits : (texts : List BracketText) (counts : ℕ → Bool) (line : List ℕ) (column : ℕ) (b : BracketText)
+    → bracket_at texts counts line column ≡ Some b → (0 < length b.text) × (length b.text ≤ length (drop column line))
+bracket_fits texts counts line column b e =
+    let stands = stands_by (drop column line) b.text (all_count counts column (length b.text))
+    (longest_passes (stands_at counts line column) texts b e) in
+    (stands.0, starts_fits (drop column line) b.text stands.1)

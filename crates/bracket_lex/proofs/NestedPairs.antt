@@ -80,13 +80,11 @@ below_by limit state m ms (Opener kind) is later = elim (cases_Bool (nat_le limi
         mark = m;
         level = length state.entries;
         own = of_kind kind state.entries;
-        closes =
-            None;
+        closes = None;
       })
       (placed_from limit (record {
         rows = state.rows + 1;
-        entries =
-            record { row = state.rows; kind = kind } ∷ state.entries;
+        entries = record { row = state.rows; kind = kind } ∷ state.entries;
       }) ms)
       (λ own opens. leb-false limit (length state.entries) room)
       (later (record { rows = state.rows + 1; entries = record { row = state.rows; kind = kind } ∷ state.entries })))

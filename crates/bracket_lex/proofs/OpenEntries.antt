@@ -46,8 +46,7 @@ last_of kinds n (e ∷ es) entry below stack is = elim (cases_Bool (has_kind kin
         is_entry = inl (first, rest);
         kind = rw (← first) here;
         stack = rw (← first, ← rest) stack.1;
-        deeper =
-            λ x under h. inr (rw rest h);
+        deeper = λ x under h. inr (rw rest h);
       }
   | inr other ↦
       let l : Last kinds e.row es entry below = last_of kinds e.row es entry below stack.1 (rw other at is) in
@@ -55,8 +54,7 @@ last_of kinds n (e ∷ es) entry below stack is = elim (cases_Bool (has_kind kin
         is_entry = inr l.is_entry;
         kind = l.kind;
         stack = l.stack;
-        deeper =
-            λ x under h. inr (l.deeper x under h);
+        deeper = λ x under h. inr (l.deeper x under h);
       }
 ]
 

@@ -50,8 +50,7 @@ off_more n x c p ps off =
       placed = off.placed;
       there = off.there;
       closed = off.closed;
-      closes =
-          off.closes;
+      closes = off.closes;
       around = off.around;
       behind = omega arith;
       before = omega arith;
@@ -77,8 +76,7 @@ off_by n x c (suc place) closed p r ps there closes around behind before =
       there = there;
       closed = closed;
       closes = closes;
-      around =
-          around;
+      around = around;
       behind = omega arith;
       before = omega arith;
     })
@@ -97,8 +95,7 @@ new_more n x p ps e new =
       number = omega arith;
       before = omega arith;
       placed = new.placed;
-      there =
-          new.there;
+      there = new.there;
       role = new.role;
     }
 
@@ -147,8 +144,7 @@ off_first n x c p ps f =
       closed = f.closed;
       closes = f.closes;
       around = f.around;
-      behind =
-          omega arith;
+      behind = omega arith;
       before = omega arith;
     }
 
@@ -175,8 +171,7 @@ carried state p ps next x Is step t = record {
         number = omega (arith, new.0);
         before = omega arith;
         placed = p;
-        there =
-            refl;
+        there = refl;
         role = new.1;
       })
     ]
@@ -218,13 +213,11 @@ pub behind_row : (state : Open) (p : Placed) (ps : List Placed) (next last : Lis
 behind_row state p ps next last stack levels step later =
     record {
       before = before_row state p ps next last stack levels step later;
-      at_end =
-          carried state p ps next (length ps) (λ entries. entries ≡ last) step later.at_end;
+      at_end = carried state p ps next (length ps) (λ entries. entries ≡ last) step later.at_end;
     }
 
 pub no_rows : (state : Open) → IsStack state.rows state.entries → Stacks state [] state.entries
 no_rows state stack = record {
   before = λ x q there. absurd (cc);
-  at_end =
-      at_once state [] (λ entries. entries ≡ state.entries) stack refl;
+  at_end = at_once state [] (λ entries. entries ≡ state.entries) stack refl;
 }

@@ -88,8 +88,7 @@ further n next p ps r f = record {
   place = suc f.place;
   number = omega arith;
   placed = f.placed;
-  there =
-      f.there;
+  there = f.there;
   closes = f.closes;
   start = f.start;
   within = f.within;
@@ -112,8 +111,7 @@ first_by n next p ps r (Some c) is found later = elim (cases_Bool (nat_le c n)) 
         placed = p;
         there = refl;
         closes = rw (← closed) is;
-        start =
-            ap (λ x. x.start) same;
+        start = ap (λ x. x.start) same;
         within = omega (arith, leb-true c n here);
       }
   | inr other ↦ further n next p ps r (later (rw other at found))

@@ -40,8 +40,7 @@ closer_levels : (p : Placed) (kinds : Kinds) (c : ℕ) (es : List Entry) → p.m
 closer_levels p kinds c es role closes =
     record {
       opener = λ kind too. no_opener p kinds kind role too;
-      alone =
-          λ others too none. closes_nothing p c none closes;
+      alone = λ others too none. closes_nothing p c none closes;
     }
 
 -- ---- steps
@@ -84,8 +83,7 @@ closer_old n kinds es entry below p stack found closes e under among =
         closed = entry.row;
         closes = closes;
         around = off;
-        behind =
-            entry_below n es e under stack among;
+        behind = entry_below n es e under stack among;
       })
     ]
 
@@ -145,8 +143,7 @@ mark_by limit state m ms (Opener kind) is stack later = elim (cases_Bool (nat_le
         mark = m;
         level = length state.entries;
         own = of_kind kind state.entries;
-        closes =
-            None;
+        closes = None;
       } in
       let next : List Entry = record { row = state.rows; kind = kind } ∷ state.entries in
       rw room

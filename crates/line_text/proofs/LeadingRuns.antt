@@ -271,14 +271,12 @@ BothOrStart i old j new = ((i < old) × (j < new)) ⊎ ((i ≡ old) × (j ≡ ne
 IsGap-from : (i old j new : ℕ) → BothOrStart i old j new → IsGap i old j new
 IsGap-from i old j new (inl b) = record {
   old_rises = omega (arith, b.0);
-  new_rises =
-      omega (arith, b.1);
+  new_rises = omega (arith, b.1);
   both_or_neither = (λ l. b.1, λ l. b.0);
 }
 IsGap-from i old j new (inr b) = record {
   old_rises = omega (arith, b.0);
-  new_rises =
-      omega (arith, b.1);
+  new_rises = omega (arith, b.1);
   both_or_neither = (λ l. absurd (omega (arith, b.0)), λ l. absurd (omega (arith, b.1)));
 }
 

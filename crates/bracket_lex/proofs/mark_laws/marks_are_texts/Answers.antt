@@ -6,6 +6,5 @@ pub returns : goal.returns
 returns c = record {
   longest = marks_are_the_longest_texts;
   each = no_text_is_missed;
-  too_long =
-      long_lines_have_no_marks;
+  too_long = long_lines_have_no_marks;
 }

@@ -5,6 +5,5 @@ pub returns : goal.returns
 returns c = record {
   inside = pairs_never_cross;
   openers = openers_are_below_the_limit;
-  partners =
-      partners_are_below_the_limit;
+  partners = partners_are_below_the_limit;
 }

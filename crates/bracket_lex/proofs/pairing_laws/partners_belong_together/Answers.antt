@@ -6,8 +6,7 @@ pub returns : goal.returns
 returns c = record {
   mutually = partners_are_mutual;
   in_order = openers_come_first;
-  alike =
-      partners_are_alike;
+  alike = partners_are_alike;
   colour = colours_go_by_level;
   unpaired = the_unpaired_have_colour_six;
 }

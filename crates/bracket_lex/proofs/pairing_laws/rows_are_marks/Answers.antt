@@ -5,6 +5,5 @@ pub returns : goal.returns
 returns c = record {
   in_order = rows_are_marks_in_order;
   closers = closers_have_rows;
-  within_limit =
-      marks_within_the_limit_have_rows;
+  within_limit = marks_within_the_limit_have_rows;
 }
