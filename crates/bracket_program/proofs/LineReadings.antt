@@ -6,7 +6,7 @@ use Rattle.piece_io.specs.declared.line_cutter.Cut.{Cut}
 use Rattle.piece_io.specs.declared.line_cutter.Cut.TheVariants.{Line, TooLong}
 use Rattle.piece_io.specs.Cuts.{Cutting, cut_of, cuts_of, next_cut, first_cut}
 use Rattle.piece_io.specs.CutLaws.{lines_of-split, unfinished-line, unfinished-append}
-use Rattle.answer_defs.specs.declared.refusal.Refusal.TheVariants as refusal
+use Rattle.script_words.specs.declared.refusal.Refusal.TheVariants as refusal
 use Rattle.script_words.specs.Script.{refused, meaning_of, reading_of}
 use Rattle.session_defs.specs.Output.{line_if_any}
 use Rattle.bracket_program.specs.Lines.{cut_reading, lines_given, last_given, last_of}

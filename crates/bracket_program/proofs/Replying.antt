@@ -4,7 +4,7 @@ use Rattle.std.specs.Prelude.{Option, Some, None, Result, Ok, Err, OnErr, OnOk}
 use Rattle.piece_io.specs.Told.{appended}
 use Rattle.piece_io.specs.declared.line_cutter.Cut.{Cut}
 use Rattle.piece_io.specs.Cuts.{Cutting, next_cut}
-use Rattle.answer_defs.specs.Answers.{Settings}
+use Rattle.document_defs.specs.TextRows.{Settings}
 use Rattle.script_words.specs.ReplyText.{reply_text}
 use Rattle.session_defs.specs.Session.{reading_step, replies_to, text_behind}
 use Rattle.bracket_program.specs.Lines.{cut_reading, given}

@@ -3,7 +3,7 @@ use Rattle.std.proofs.Common.{◌≡◌, ◌⊎◌, inl, inr, ℕ, ◌≤◌, �
 use Rattle.std.specs.Prelude.{Option, Some, None, IfSome}
 use Rattle.text_defs.specs.Text.{text_of, whole_lines}
 use Rattle.piece_io.specs.Told.{Told, Untold, Missing, Holds, appended, risen}
-use Rattle.answer_defs.specs.Answers.{Settings, usual}
+use Rattle.document_defs.specs.TextRows.{Settings, usual}
 use Rattle.session_defs.specs.Output.{is_accepted, output_of, written_for, script_lines, most_script_bytes}
 use Rattle.session_defs.specs.Words.{Request}
 use Rattle.bracket_program.specs.Ends.{Outside, WritesFront, IsDone, IsCut, IsFront, IsEnd}

@@ -5,7 +5,7 @@ use Rattle.std.proofs.lemmas.List.{take-append-drop, map-append}
 use Rattle.text_defs.specs.Text.{whole_lines, unfinished}
 use Rattle.piece_io.specs.Told.{GivesFront}
 use Rattle.piece_io.specs.CutLaws.{whole_lines-append, unfinished-append}
-use Rattle.answer_defs.specs.Answers.{Settings}
+use Rattle.document_defs.specs.TextRows.{Settings}
 use Rattle.script_words.specs.ReplyText.{reply_text}
 use Rattle.script_words.specs.Script.{Reading, reading_of}
 use Rattle.session_defs.specs.Session.{reading_step, replies_to, text_behind, opened}

@@ -6,7 +6,7 @@ use Rattle.text_defs.specs.Text.{whole_lines, unfinished}
 use Rattle.piece_io.specs.Told.{GivesFront, appended, risen}
 use Rattle.piece_io.specs.Cuts.{Cutting, cuts_of, next_cut}
 use Rattle.piece_io.specs.CutLaws.{whole_lines-append}
-use Rattle.answer_defs.specs.Answers.{Settings}
+use Rattle.document_defs.specs.TextRows.{Settings}
 use Rattle.script_words.specs.ReplyText.{reply_text}
 use Rattle.script_words.specs.Script.{reading_of}
 use Rattle.session_defs.specs.Session.{replies_to, text_behind, opened}

@@ -1,4 +1,6 @@
-use super::*;
+use script_words::{
+    Answer, BracketRow, Command, CommandRefusal, MarkAt, Question, Refusal, Reply, Rows,
+};
 use std::alloc::{AllocError, Global};
 use std::test::Fail;
 use text_pos::{Bytes, Chars};

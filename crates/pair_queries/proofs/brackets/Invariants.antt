@@ -1,6 +1,6 @@
 use Rattle.std.proofs.Common.{◌≡◌, take}
 use Rattle.answer_defs.specs.Answers.{brackets_in}
-use Rattle.pair_queries.proofs.brackets_among.Given as goal
+use Rattle.pair_queries.proofs.brackets.Given as goal
 
 -- those of the rows so far are found
 abbrev pub invariant-loop-row : goal.invariant-loop-row

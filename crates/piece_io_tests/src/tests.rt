@@ -1,6 +1,9 @@
 ghost use Rattle.std.specs.Prelude.{◌≡◌, ◌<◌, length};
 
-use super::*;
+use piece_io::{
+    Cut, Failed, FileEnd, Files, LineCutter, MemFiles, MemSink, MemSource, Source, read_file,
+    write_whole,
+};
 use std::alloc::{AllocError, Global};
 use std::test::Fail;
 
