@@ -1,5 +1,6 @@
 -- The texts that stand at a place, and the longest of them.
-use Rattle.std.proofs.Common.{◌≡◌, ℕ, zero, suc, ◌+◌, ◌-◌, ◌<◌, ◌≤◌, ◌==◌, Bool, true, false, if◌then◌else◌, List, []}
+use Rattle.std.proofs.Common.{◌≡◌, ℕ, zero, suc, ◌+◌, ◌-◌, ◌<◌, ◌≤◌, ◌==◌, ◌&&◌, Bool, true, false, if◌then◌else◌}
+use Rattle.std.proofs.Common.{List, []}
 use Rattle.std.proofs.Common.{◌∷◌, ◌++◌, length, take, drop, Option, Some, None, refl, sym, ap, ◌∙◌, arith, inl, inr}
 use Rattle.std.proofs.Common.{nat_eq}
 use Rattle.std.specs.Prelude.{slice_get, slice_range}
@@ -68,6 +69,17 @@ stands_from counts line column b stands =
     let first : starts_with nat_eq rest b.text ≡ true =
     (starts_is Decides-eqb rest b.text (starts_with nat_eq rest b.text) refl).1 (drop (length b.text) rest) split in
     rw (not_empty (length b.text) stands.some, first, all_counted counts column (length b.text) stands.counted) refl
+
+and_true : (b : Bool) → (b && true) ≡ b
+and_true true = refl
+and_true false = refl
+
+-- where every column counts
+pub stands_every : (line : List ℕ) (column : ℕ) (b : BracketText) → 0 < length b.text
+    → starts_with nat_eq (drop column line) b.text ≡ stands_at every_column line column b
+stands_every line column b some =
+    let front = starts_with nat_eq (drop column line) b.text in
+    rw (not_empty (length b.text) some, every_column_counts column (length b.text)) (sym (and_true front))
 
 -- ---- the longest
 -- what is found where one of the texts passes
