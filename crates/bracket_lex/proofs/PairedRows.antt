@@ -4,6 +4,7 @@ use Rattle.std.proofs.Common.{◌∙◌, arith, inl, inr}
 use Rattle.std.specs.Prelude.{slice_get}
 use Rattle.std.proofs.lemmas.Bool.{cases_Bool, eq-eqb, eqb-true}
 use Rattle.text_pos.specs.declared.length.Pos.{Pos}
+use Rattle.pairing_defs.specs.declared.TheConstants.{COLOURS}
 use Rattle.pairing_defs.specs.declared.Role.{Role}
 use Rattle.pairing_defs.specs.declared.Role.TheVariants.{Opener, Closer}
 use Rattle.pairing_defs.specs.declared.Mark.{Mark}
@@ -11,7 +12,7 @@ use Rattle.pairing_defs.specs.declared.Row.{Row}
 use Rattle.pairing_defs.specs.Pairing.{Placed, Removal, removal_of, closer_of, row_by, row_of, rows_from, placed_from}
 use Rattle.pairing_defs.specs.Pairing.{nothing_open, paired}
 use Rattle.bracket_lex.specs.PairLaws.{HasPartner, ClosesKind, OpensFor, PartnersAreMutual, OpenersComeFirst}
-use Rattle.bracket_lex.specs.PairLaws.{PartnersAreAlike, ColoursGoByLevel, TheUnpairedHaveColourSix}
+use Rattle.bracket_lex.specs.PairLaws.{PartnersAreAlike, ColoursGoByLevel, TheUnpairedHaveTheColourBehind}
 use Rattle.bracket_lex.proofs.RowPlaces.{slice_get-drop, finished, RowAt, row_at, row_made, FirstCloser, first_closer}
 use Rattle.bracket_lex.proofs.ClosedRows.{ByRow, closer_of_row}
 
@@ -164,7 +165,8 @@ openers_come_first limit end ms i j row other h = elim (partner_pair limit end m
 alike : (ps : List Placed) (i j : ℕ) (opener closer : Row) (pair : Pair ps i j) → opener
     ≡ row_by pair.opener (Some j) pair.closer.mark.at → closer ≡ row_by pair.closer (Some i) pair.closer.mark.at
     → (opener.level ≡ closer.level) × (opener.own ≡ closer.own) × (opener.colour ≡ closer.colour)
-alike ps i j opener closer pair o c = rw (o, c) (sym pair.level, sym pair.own, ap (λ level. level % 6) (sym pair.level))
+alike ps i j opener closer pair o c = rw (o, c)
+    (sym pair.level, sym pair.own, ap (λ level. level % COLOURS) (sym pair.level))
 
 pub partners_are_alike : PartnersAreAlike
 partners_are_alike limit end ms i j row other h = elim (partner_pair limit end ms i j row h.first) [
@@ -186,12 +188,12 @@ colours_go_by_level limit end ms i j row h = elim (partner_pair limit end ms i j
 ]
 
 colour_by : (end : Pos) (n : ℕ) (p : Placed) (role : Role) (removal : Option Removal)
-    → (row_of end n p role removal).partner ≡ None → (row_of end n p role removal).colour ≡ 6
+    → (row_of end n p role removal).partner ≡ None → (row_of end n p role removal).colour ≡ COLOURS
 colour_by end n p (Opener kind) removal is = rw is refl
 colour_by end n p (Closer kinds) removal is = rw is refl
 
-pub the_unpaired_have_colour_six : TheUnpairedHaveColourSix
-the_unpaired_have_colour_six limit end ms i row there none =
+pub the_unpaired_have_the_colour_behind : TheUnpairedHaveTheColourBehind
+the_unpaired_have_the_colour_behind limit end ms i row there none =
     let r : RowAt end i (placed_from limit nothing_open ms) i row =
     row_at end (placed_from limit nothing_open ms) i row there in
     ap (λ x. x.colour) r.is
