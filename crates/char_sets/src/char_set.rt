@@ -1,4 +1,4 @@
-ghost use Rattle.std.specs.Prelude.{◌≡◌, ◌≤◌, ◌<◌, ◌+◌, ◌&&◌, ℕ, [], ◌∷◌, true, IfOk, nat_le};
+ghost use Rattle.std.specs.Prelude.{◌≡◌, ◌≤◌, ◌<◌, ◌+◌, ◌&&◌, ℕ, [], ◌∷◌, true, IfOk, length, nat_le};
 ghost use Rattle.char_sets.specs.Ranges.{in_set, rises, IsSetOf, AreBitsOf};
 
 use crate::bits::bits_of;
@@ -50,7 +50,7 @@ impl CharSet {
     }
 
     /// The set of all characters.
-    pub(crate) fn all() -> CharSet
+    pub fn all() -> CharSet
         ensures { result ≡ record { first = 0; last = 1_114_111 } ∷ [] }
     {
         CharSet::of_range(CharRange {
@@ -148,6 +148,13 @@ impl CharSet {
     {
         let ranges = Ranges::of_vec(ranges)?;
         Ok(CharSet { low, high, ranges })
+    }
+
+    /// How many ranges it has.
+    pub fn range_count(&self) -> usize
+        ensures { result ≡ length self.now }
+    {
+        self.ranges().len()
     }
 
     pub(crate) fn ranges(&self) -> &[CharRange]
