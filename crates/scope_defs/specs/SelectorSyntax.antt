@@ -1,8 +1,8 @@
 -- Which text is a selector, and which entries it has. It is read sign by sign; a row for each sign says what it does
 -- to what was read before it. The syntax is that of vscode-textmate's matcher; that everything else is refused, the
 -- places of refusals and the limit on nesting are this project's own.
-use Rattle.std.specs.Prelude.{ℕ, zero, suc, ◌+◌, nat_lt, nat_eq, ◌==◌, List, [], ◌∷◌, ◌++◌, codes, length, sum_by, Bool, true, false, ◌&&◌, ◌||◌, if◌then◌else◌, Option, Some, None, Result, Ok, Err, ℤ, pos, negsuc}
-use Rattle.std.specs.List.{starts_with}
+use Rattle.std.specs.Prelude.{ℕ, zero, suc, ◌+◌, nat_lt, nat_eq, ◌==◌, List, [], ◌∷◌, ◌++◌, codes, length, sum_by, Bool, true, false, ◌&&◌, ◌||◌, if◌then◌else◌, Option, Some, None, unwrap_or, slice_get, Result, Ok, Err, ℤ, pos, negsuc}
+use Rattle.std.specs.Result.{result_unwrap_or}
 use Rattle.scope_defs.specs.declared.limits.TheConstants.{MOST_NESTED}
 use Rattle.scope_defs.specs.Scopes.{Name}
 use Rattle.scope_defs.specs.StandardType.{is_word_char}
@@ -127,11 +127,17 @@ abbrev pub on_space : Stand → Reading → Option Reading
 on_space (Naming names name begins) r = stands (Spaced (names ++ name ∷ [])) r
 on_space other r = Some r
 
+-- a name is this one character
+abbrev pub is_only : ℕ → Name → Bool
+is_only letter [] = false
+is_only letter (c ∷ []) = c == letter
+is_only letter (c ∷ d ∷ cs) = false
+
 -- a colon behind an `L` or an `R` that begins its entry sets the priority
 abbrev pub priority_by : Bool → Name → ℕ → Option ℤ
 priority_by begins name c =
-    if begins && ((c == 58) && starts_with nat_eq (codes "L") name) then Some (negsuc 0) else
-    if begins && ((c == 58) && starts_with nat_eq (codes "R") name) then Some (pos 1) else None
+    if begins && ((c == 58) && is_only 76 name) then Some (negsuc 0) else
+    if begins && ((c == 58) && is_only 82 name) then Some (pos 1) else None
 
 abbrev pub in_name : Option ℤ → List Name → Name → Bool → Reading → Option Reading
 in_name None names name begins r = stands (Naming names name begins) r
@@ -240,3 +246,13 @@ read_within limit text = read_on limit text nothing 0
 -- the entries of a selector, or the place where it is refused
 abbrev pub read_selector : List ℕ → Result (List Entry) ℕ
 read_selector text = read_within MOST_NESTED text
+
+abbrev pub entries_of : List ℕ → List Entry
+entries_of text = result_unwrap_or (read_selector text) []
+
+abbrev pub no_entry : Entry
+no_entry = record { priority = pos 0; matcher = Path [] }
+
+-- entry `n` of a selector, from 0
+abbrev pub entry_at : List ℕ → ℕ → Entry
+entry_at text n = unwrap_or (slice_get (entries_of text) n) no_entry

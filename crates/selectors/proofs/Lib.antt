@@ -1,0 +1,2 @@
+pub mod FoundBack
+pub mod Passing
