@@ -1,7 +1,9 @@
 -- Which text is a selector, and which entries it has. It is read sign by sign; a row for each sign says what it does
 -- to what was read before it. The syntax is that of vscode-textmate's matcher; that everything else is refused, the
 -- places of refusals and the limit on nesting are this project's own.
-use Rattle.std.specs.Prelude.{ℕ, zero, suc, ◌+◌, nat_lt, nat_eq, ◌==◌, List, [], ◌∷◌, ◌++◌, codes, length, sum_by, Bool, true, false, ◌&&◌, ◌||◌, if◌then◌else◌, Option, Some, None, unwrap_or, slice_get, Result, Ok, Err, ℤ, pos, negsuc}
+use Rattle.std.specs.Prelude.{ℕ, zero, suc, ◌+◌, nat_lt, nat_eq, ◌==◌, List, [], ◌∷◌, ◌++◌, codes, length, sum_by}
+use Rattle.std.specs.Prelude.{Bool, true, false, ◌&&◌, ◌||◌, if◌then◌else◌, Option, Some, None, unwrap_or, slice_get}
+use Rattle.std.specs.Prelude.{Result, Ok, Err, ℤ, pos, negsuc}
 use Rattle.std.specs.Result.{result_unwrap_or}
 use Rattle.scope_defs.specs.declared.limits.TheConstants.{MOST_NESTED}
 use Rattle.scope_defs.specs.Scopes.{Name}
@@ -28,7 +30,8 @@ pub data Stand : Type 0 where
   -- a parenthesis that closes, and spaces; what stands inside it
   Closed : (inside : Matcher) → Stand
 
--- what is read: the entries before the one at hand, its priority, the levels that are open around the innermost from the
+-- what is read: the entries before the one at hand, its priority, the levels that are open around the innermost from
+-- the
 -- inside out, the innermost, and what stands before the place
 pub record Reading : Type 0 where
   pub entries : List Entry
@@ -169,7 +172,8 @@ on_opening r = Some (record r { around = ended r ∷ r.around; level = empty_lev
 
 -- a parenthesis that closes ends an operand, and is one with what stands inside
 abbrev pub on_closing : Option Matcher → List Level → Reading → Option Reading
-on_closing (Some operand) (outer ∷ around) r = Some (record r { around = around; level = outer; stand = Closed (whole r.level operand) })
+on_closing (Some operand) (outer ∷ around) r =
+    Some (record r { around = around; level = outer; stand = Closed (whole r.level operand) })
 on_closing _ _ r = None
 
 abbrev pub on_alternative : Matcher → Reading → Option Reading

@@ -6,7 +6,9 @@ use Rattle.scope_stack.specs.declared.stack.Stack.TheInside.{Inside}
 use Rattle.scope_stack.specs.declared.stack.Stack.TheDeep.{deep-Stack, deep-Level}
 use Rattle.scope_stack.specs.Levels.{frames_of}
 
-level_falls : (frame : Frame) (below : Option Stack) (depth number : ℕ) → deep-Level (record { frame = frame; below = below; depth = depth; number = number }) ≤ suc (length (frames_of below))
+level_falls : (frame : Frame) (below : Option Stack) (depth number : ℕ)
+    → deep-Level (record { frame = frame; below = below; depth = depth; number = number }) ≤ suc
+    (length (frames_of below))
 level_falls frame None depth number = omega arith
 level_falls frame (Some stack) depth number = omega arith
 

@@ -15,7 +15,8 @@ flag_number flag = if flag then 1 else 0
 -- the number of frames, of that of those below and the innermost
 abbrev pub frame_number : ℕ → Frame → ℕ
 frame_number below frame =
-    mixed (mixed (mixed (mixed (mixed below frame.rule) (flag_number frame.took_end)) (end_number frame.end_text)) (scopes_number frame.name)) (scopes_number frame.content)
+    mixed (mixed (mixed (mixed (mixed below frame.rule) (flag_number frame.took_end)) (end_number frame.end_text))
+    (scopes_number frame.name)) (scopes_number frame.content)
 
 abbrev pub frames_number : List Frame → ℕ
 frames_number [] = SEED

@@ -83,9 +83,13 @@ on_closing r = if ends_operand r.stand then closed r.around (ended r) else None
 abbrev pub on_alternative : Reader → Reader
 on_alternative r = record r { signs = r.signs ++ kept.Next ∷ []; minuses = 0; stand = Wanting }
 
+-- where an operand has ended
+abbrev pub bar_on : List Outer → Reader → Option Reader
+bar_on [] r = None
+bar_on (outer ∷ around) r = Some (on_alternative r)
+
 abbrev pub on_bar : List Outer → Reader → Option Reader
-on_bar [] r = None
-on_bar (outer ∷ around) r = if ends_operand r.stand then Some (on_alternative (ended r)) else None
+on_bar around r = if ends_operand r.stand then bar_on around (ended r) else None
 
 abbrev pub with_entry : Reader → List KeptEntry
 with_entry r = r.entries ++ record { priority = r.priority; signs = r.signs } ∷ []
@@ -93,9 +97,13 @@ with_entry r = r.entries ++ record { priority = r.priority; signs = r.signs } �
 abbrev pub on_entry : Reader → Reader
 on_entry r = record nothing { entries = with_entry r }
 
+-- where an operand has ended
+abbrev pub comma_on : List Outer → Reader → Option Reader
+comma_on [] r = Some (on_entry r)
+comma_on (outer ∷ around) r = Some (on_alternative r)
+
 abbrev pub on_comma : List Outer → Reader → Option Reader
-on_comma [] r = if ends_operand r.stand then Some (on_entry (ended r)) else None
-on_comma (outer ∷ around) r = if ends_operand r.stand then Some (on_alternative (ended r)) else None
+on_comma around r = if ends_operand r.stand then comma_on around (ended r) else None
 
 abbrev pub on_sign : Sign → ℕ → Reader → Option Reader
 on_sign Space c r = Some (on_space r.stand r)
@@ -132,9 +140,13 @@ is_too_deep c r = begins_operand (sign_of c) r.stand && is_deep r
 abbrev pub step : ℕ → Reader → Option Reader
 step c r = if is_too_deep c r then None else on_sign (sign_of c) c r
 
+-- where an operand has ended
+abbrev pub end_on : List Outer → Reader → Option (List KeptEntry)
+end_on [] r = Some (with_entry r)
+end_on (outer ∷ around) r = None
+
 abbrev pub at_end : List Outer → Reader → Option (List KeptEntry)
-at_end [] r = if ends_operand r.stand then Some (with_entry (ended r)) else None
-at_end (outer ∷ around) r = None
+at_end around r = if ends_operand r.stand then end_on around (ended r) else None
 
 abbrev pub ok_or_at : Option (List KeptEntry) → ℕ → Result (List KeptEntry) ℕ
 ok_or_at None at = Err at

@@ -8,9 +8,9 @@ use thiserror::Error;
 #[derive(Debug, Drop, Error)]
 pub enum SelectorRefusal {
     /// The character at this place, counted from 0, or the end of the text isn't what a selector has there.
-    #[error("syntax")]
+    #[error("Syntax")]
     Syntax { at: u64 },
-    #[error("memory")]
+    #[error("Memory")]
     Memory,
 }
 
