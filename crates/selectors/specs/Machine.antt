@@ -1,8 +1,10 @@
 -- A selector as it is read into signs: what is kept of the reading that `scope_defs/SelectorSyntax` tells.
-use Rattle.std.specs.Prelude.{ℕ, ◌+◌, ◌%◌, ◌==◌, nat_lt, List, [], ◌∷◌, ◌++◌, Bool, true, false, ◌&&◌, if◌then◌else◌, Option, Some, None, Result, Ok, Err, ℤ, pos}
+use Rattle.std.specs.Prelude.{ℕ, ◌+◌, ◌%◌, ◌==◌, nat_lt, List, [], ◌∷◌, ◌++◌, Bool, true, false, ◌&&◌, if◌then◌else◌}
+use Rattle.std.specs.Prelude.{Option, Some, None, Result, Ok, Err, ℤ, pos}
 use Rattle.scope_defs.specs.declared.limits.TheConstants.{MOST_NESTED}
 use Rattle.scope_defs.specs.Scopes.{Name}
-use Rattle.scope_defs.specs.SelectorSyntax.{Sign, Space, Letter, Minus, Opens, Closes, Bar, Comma, Other, sign_of, priority_by}
+use Rattle.scope_defs.specs.SelectorSyntax.{Sign, Space, Letter, Minus, Opens, Closes, Bar, Comma, Other, sign_of}
+use Rattle.scope_defs.specs.SelectorSyntax.{priority_by}
 use Rattle.selectors.specs.declared.pile.Outer.{Outer}
 use Rattle.selectors.specs.declared.sign.KeptEntry.{KeptEntry}
 use Rattle.selectors.specs.declared.sign.Sign.TheVariants as kept
@@ -19,7 +21,12 @@ nothing = record { entries = []; priority = pos 0; around = []; outside = 0; min
 
 -- a path that ends, behind its minus signs
 abbrev pub with_path : List Name → Reader → Reader
-with_path names r = record r { signs = r.signs ++ kept.Path names (is_even r.minuses) ∷ []; minuses = 0; stand = Wanting }
+with_path names r = record r {
+  signs = r.signs ++ kept.Path names (is_even r.minuses) ∷ [];
+  minuses = 0;
+  stand =
+      Wanting;
+}
 
 -- the operand at hand has ended
 abbrev pub ended_at : Stand → Reader → Reader

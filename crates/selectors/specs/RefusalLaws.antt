@@ -1,6 +1,7 @@
 -- The place where a text is refused as a selector, told without the limit on nesting and without an order of reading:
 -- some selector goes on from what stands before it, and none from that and the character there.
-use Rattle.std.specs.Prelude.{◌≡◌, ℕ, ◌+◌, ◌<◌, ◌≤◌, ◌⊎◌, List, [], ◌∷◌, ◌++◌, length, take, get_or, IsTrue, IsOk, Option, Some, None, Err}
+use Rattle.std.specs.Prelude.{◌≡◌, ℕ, ◌+◌, ◌<◌, ◌≤◌, ◌⊎◌, List, [], ◌∷◌, ◌++◌, length, take, get_or, IsTrue, IsOk}
+use Rattle.std.specs.Prelude.{Option, Some, None, Err}
 use Rattle.scope_defs.specs.declared.limits.TheConstants.{MOST_NESTED}
 use Rattle.scope_defs.specs.SelectorSyntax.{Reading, nothing, step, at_end, operand_of, is_too_deep, read_selector}
 
@@ -38,5 +39,6 @@ BeginsTooDeep front c = IsDeepAfter (after front nothing) c
 pub record IsFirstFault (text : List ℕ) (at : ℕ) : Type 0 where
   pub within : at ≤ length text
   pub before : BeginsSelector (take at text)
-  pub there : at < length text → (¬ BeginsSelector (take (at + 1) text)) ⊎ BeginsTooDeep (take at text) (get_or text at 0)
+  pub there : at < length text → (¬ BeginsSelector (take (at + 1) text))
+      ⊎ BeginsTooDeep (take at text) (get_or text at 0)
   pub at_end : at ≡ length text → ¬ IsSelector text
