@@ -1,5 +1,5 @@
 -- Stacks without the places where frames were entered and their anchors.
-use Rattle.std.proofs.Common.{◌≡◌, ℕ, List, [], ◌∷◌, length, map, Option, Some, None, refl, sym, ◌∙◌, ap, arith}
+use Rattle.std.proofs.Common.{◌≡◌, List, [], ◌∷◌, length, map, Some, None, refl, sym, ◌∙◌, ap, arith}
 use Rattle.scope_defs.specs.Frames.{Frame, Stack, frames, depth, stack_of, forgotten, forgotten_all}
 use Rattle.scope_stack.specs.Numbers.{frame_number, frames_number}
 

@@ -1,5 +1,5 @@
 -- What a shared stack is seen as, and what it keeps.
-use Rattle.std.specs.Prelude.{◌≡◌, ℕ, suc, ◌+◌, ◌≤◌, List, [], ◌∷◌, length, Option, Some, None}
+use Rattle.std.specs.Prelude.{◌≡◌, ◌≤◌, List, [], Option, Some, None}
 use Rattle.scope_defs.specs.declared.limits.TheConstants.{MOST_FRAMES}
 use Rattle.scope_defs.specs.Frames.{Frame, Stack, frames, depth}
 use Rattle.scope_stack.specs.Numbers.{frames_number}

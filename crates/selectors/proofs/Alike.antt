@@ -2,6 +2,7 @@
 use Rattle.std.proofs.Common.{◌≡◌, ℕ, zero, suc, ◌+◌, ◌%◌, ◌==◌, nat_lt, Bool, true, false, ◌&&◌, ◌||◌, not, cond}
 use Rattle.std.proofs.Common.{List, [], ◌∷◌, ◌++◌, length, map, sum_by, Option, Some, None, Result, Ok, Err, ℤ, pos}
 use Rattle.std.proofs.Common.{refl, sym, ◌∙◌, ap, subst, arith}
+use Rattle.std.proofs.lemmas.List.Sums.{sum_by-cons}
 use Rattle.scope_defs.specs.declared.limits.TheConstants.{MOST_NESTED}
 use Rattle.scope_defs.specs.Scopes.{Name, Scopes}
 use Rattle.scope_defs.specs.Selectors.{Matcher, Path, Not, Both, Either, Entry, holds, path_holds}
@@ -425,9 +426,8 @@ outside_is [] outside [] lie = sym lie
 outside_is [] outside (level ∷ around) lie = absurd lie
 outside_is (o ∷ others) outside [] lie = absurd lie
 outside_is (o ∷ others) outside (level ∷ around) lie =
-    let all : sum_by (λ (outer : Level). outer.minuses + 1) (level ∷ around)
-    ≡ (level.minuses + 1) + sum_by (λ (outer : Level). outer.minuses + 1) around = refl in
-    all ∙ omega (arith, outside_is others o.outside around lie.2, lie.0, lie.1)
+    sum_by-cons (λ (outer : Level). outer.minuses + 1) level around
+    ∙ omega (arith, outside_is others o.outside around lie.2, lie.0, lie.1)
 
 minuses_alike : (stand : syntax.Stand) (level : Level) (minuses : ℕ) → minuses ≡ (kept_level stand level).minuses
     → (with_operand (operand_of stand) level).minuses ≡ machine.minuses_before (stand_of stand) minuses

@@ -36,7 +36,10 @@ pub record FaultFrom (text : List ℕ) (r : Reading) (place at : ℕ) : Type 0 w
       ⊎ IsTrue (is_too_deep MOST_NESTED (get_or text count 0) reached)
   pub ends : count ≡ length text → IsOk (at_end (operand_of reached.stand) reached.around reached 0) → ⊥
 
-ok_no_err : (es : List Entry) (at : ℕ) → Ok {E = ℕ} es ≡ Err at → ⊥
+abbrev ok_read : List Entry → Result (List Entry) ℕ
+ok_read es = Ok es
+
+ok_no_err : (es : List Entry) (at : ℕ) → ok_read es ≡ Err at → ⊥
 ok_no_err es at is = cc
 
 end_fault : (operand : Option Matcher) (around : List Level) (r : Reading) (place at : ℕ)

@@ -1,4 +1,4 @@
-ghost use Rattle.std.specs.Prelude.{◌≡◌, ◌<◌, length, MatchResult};
+ghost use Rattle.std.specs.Prelude.{◌≡◌, ◌<◌, length, slice_index_or, MatchResult};
 ghost use Rattle.scope_defs.specs.Selectors.{holds};
 ghost use Rattle.scope_defs.specs.SelectorSyntax.{entries_of, entry_at};
 ghost use Rattle.selectors.specs.Meanings.{IsKept};
@@ -31,6 +31,13 @@ impl Model for Selector {
     ghost invariant = { λ selector. read_kept selector.text ≡ Ok selector.entries };
 }
 
+fn entry_in(entries: &[KeptEntry], n: usize) -> &KeptEntry
+    requires { n < length entries.now }
+    ensures { result.now ≡ slice_index_or entries.now n result.now }
+{
+    &entries[n]
+}
+
 impl Selector {
     /// Reads a selector. A text that is none is refused at the first character that no selector has behind what stands
     /// before it, or at its end; or before that at an operand in more than 100 parentheses and minus signs.
@@ -58,8 +65,7 @@ impl Selector {
         requires { entry < length (entries_of self.now) }
         ensures { IsKept result.now (entry_at self.now entry) }
     {
-        let entries = self.entries.as_slice();
-        &entries[entry as usize]
+        entry_in(self.entries.as_slice(), entry as usize)
     }
 
     /// The priority of an entry, from 0: -1 for `L:`, 1 for `R:`, else 0.
