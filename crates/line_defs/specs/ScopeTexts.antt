@@ -1,9 +1,8 @@
 -- Scope texts: the names that a text with the forms `$n`, `${n:/downcase}` and `${n:/upcase}` stands for. The forms are
 -- those of vscode-textmate; that `$n` takes all digits, that the case forms change ASCII letters only, and that a form
--- whose capture isn't there stays as it is written are this project's own. A scope text is UTF-8 bytes, and what is
--- captured is put into it as such.
+-- whose capture isn't there stays as it is written are this project's own.
 use Rattle.std.specs.Prelude.{ℕ, zero, suc, ◌+◌, ◌-◌, ◌*◌, ◌==◌, nat_le, nat_lt, nat_eq, List, [], ◌∷◌, ◌++◌, length}
-use Rattle.std.specs.Prelude.{map, drop, fold, take_while, slice_range, codes, encode_utf8_all, Bool, true, false}
+use Rattle.std.specs.Prelude.{map, drop, fold, take_while, slice_range, codes, chars, encode_utf8_all, Bool, true, false}
 use Rattle.std.specs.Prelude.{◌&&◌, if◌then◌else◌, Option, Some, None}
 use Rattle.std.specs.Char.{to_ascii_lowercase, to_ascii_uppercase}
 use Rattle.std.specs.List.{starts_with}
@@ -89,7 +88,7 @@ form_at c cs = if c == 36 then form_behind cs else None
 
 -- what a form stands for: a captured text without the dots at its front
 abbrev pub form_text : (text : List ℕ) → Captures → Form → List ℕ
-form_text text captures form = encode_utf8_all (in_case form.case (without_dots (captured text captures form.number)))
+form_text text captures form = in_case form.case (without_dots (captured text captures form.number))
 
 -- A form whose capture is no group of the pattern stays as it is written. The last argument goes on with the text,
 -- past so many characters.
@@ -109,7 +108,7 @@ filled text captures name = filled_past text captures name 0
 
 -- ---- pushing
 
--- scopes with the pieces of a scope text pushed, which may be missing
+-- scopes with the pieces of a scope text pushed, which may be missing; names are UTF-8 bytes
 abbrev pub pushed : (text : List ℕ) → Captures → Scopes → (name : Option (List ℕ)) → Scopes
 pushed text captures scopes None = scopes
-pushed text captures scopes (Some name) = push scopes (filled text captures name)
+pushed text captures scopes (Some name) = push scopes (encode_utf8_all (filled text captures (chars name)))

@@ -1,6 +1,7 @@
 -- Small grammars, and what their lines give, written short: patterns and scopes as texts.
 use Prim.Native.String.{String}
 use lib.Utf8.{encode}
+use Rattle.std.specs.Str.{chars}
 use Rattle.char_sets.specs.Named.{is_word}
 use Rattle.line_defs.specs.Turns.{turns}
 use Rattle.pattern_defs.specs.Attempt.{go_on}
@@ -213,7 +214,7 @@ shown result = record {
 
 -- lines from a start
 unfoldable pub told_from : Start → Machine → List String → List Told
-unfolding encode body_at steps behind_backslash escape_by hex_at byte_at unicode_at braced_at property_at
+unfolding encode chars body_at steps behind_backslash escape_by hex_at byte_at unicode_at braced_at property_at
     property_by by_plain_name named_bracket class_within members_at part_at member_at item_at range_char_at
     range_end behind_class_backslash behind_bracket bracket_at behind_colon go_on is_word general_category value_in
     in_ranges general_category_rows is_white_space white_space_ranges turns
