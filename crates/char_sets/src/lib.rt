@@ -6,8 +6,6 @@ pub mod char_set;
 mod codes;
 pub mod named;
 mod stretch;
-#[cfg(test)]
-mod tests;
 
 pub use char_set::{CharRange, CharSet};
 pub use named::{NamedSet, is_word_char};

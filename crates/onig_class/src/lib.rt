@@ -12,6 +12,3 @@ mod sides;
 pub use class::read_class;
 pub use escape::{Escaped, read_escape};
 pub use sets::{dot, one_char};
-
-#[cfg(test)]
-mod tests;

@@ -18,6 +18,3 @@ pub mod work;
 pub use laws::a_greater_budget_changes_no_answer;
 pub use pattern_defs::{Flags, Outcome, Place};
 pub use work::{Work, attempt};
-
-#[cfg(test)]
-mod tests;

@@ -8,8 +8,8 @@ use crate::area::{Area, go, start_of};
 use crate::cells::NodeAt;
 use crate::entries::{Entry, Resume, Step};
 use crate::searched::Searched;
-use onig_parse::Pattern;
 use pattern_defs::{Arm, ListId, PatNode};
+use pattern_tree::Pattern;
 
 fn id_at(ids: &[ListId], way: usize) -> Option<ListId>
     ensures value { result ≡ slice_get ids.now way }

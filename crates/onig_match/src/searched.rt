@@ -1,5 +1,5 @@
-use onig_parse::Pattern;
 use pattern_defs::Flags;
+use pattern_tree::Pattern;
 
 /// What an attempt is about.
 #[derive(Clone, Copy)]

@@ -12,8 +12,8 @@ use crate::captures::Captures;
 use crate::entries::{End, Point, Step};
 use crate::pile::Pile;
 use crate::searched::Searched;
-use onig_parse::Pattern;
 use pattern_defs::{Flags, Outcome, Place};
+use pattern_tree::Pattern;
 use std::alloc::{AllocError, Global};
 use std::marker::Model;
 

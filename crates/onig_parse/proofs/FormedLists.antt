@@ -6,7 +6,8 @@ use Rattle.syntax_defs.specs.declared.items.GroupName.{GroupName}
 use Rattle.syntax_defs.specs.declared.items.Item.{Item}
 use Rattle.syntax_defs.specs.declared.items.Item.TheVariants.{One, At, Choice, Group, Repeat, Ahead, Behind, Atomic, Back}
 use Rattle.onig_parse.specs.Formed.{IsItem, AreItems, AreItemLists, AreNames}
-use Rattle.onig_parse.proofs.ListLemmas.{AllIds-widen, behind}
+use Rattle.pattern_tree.proofs.ListLemmas.{AllIds-widen}
+use Rattle.onig_parse.proofs.ListLemmas.{behind}
 
 -- what comes behind numbers below n is at most n
 pub behind_within : (n low : ℕ) (ids : List ListId) → low ≤ n → AllIds n ids → behind low ids ≤ n

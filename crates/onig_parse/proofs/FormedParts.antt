@@ -6,7 +6,8 @@ use Rattle.pattern_defs.specs.Patterns.{AllIds, RiseFrom}
 use Rattle.syntax_defs.specs.declared.items.Item.{Item}
 use Rattle.syntax_defs.specs.PatternSyntax.{Seen, Body, at_place, with_list, next_id, open_items, with_item, after_bar, empty_body}
 use Rattle.onig_parse.specs.Formed.{AreItems, AreItemLists, AreNames}
-use Rattle.onig_parse.proofs.ListLemmas.{AllIds-widen, AllIds-push, RiseFrom-push}
+use Rattle.pattern_tree.proofs.ListLemmas.{AllIds-widen}
+use Rattle.onig_parse.proofs.ListLemmas.{AllIds-push, RiseFrom-push}
 use Rattle.onig_parse.proofs.FormedLists.{behind_within, AreItems-widen, AreItems-append, AreItemLists-push}
 
 -- how far the text is read: the lists that have ended and the names are well formed

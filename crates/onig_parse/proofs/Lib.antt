@@ -1,4 +1,3 @@
-pub mod ArenaLemmas
 pub mod ListLemmas
 pub mod TextLemmas
 pub mod BodySteps

@@ -5,13 +5,12 @@ ghost use Rattle.syntax_defs.specs.Singles.{single_at};
 ghost use Rattle.onig_parse.specs.Formed.{AreItems, IsFormed, IsItem, IsSingle};
 ghost use Rattle.syntax_defs.specs.Limits.{most_pattern_chars};
 
-use crate::draft::PatternDraft;
 use crate::lengths::length_of;
 use crate::parsed::ParsedText;
-use crate::pattern::Pattern;
 use crate::single::read_single;
 use char_sets::CharSet;
 use pattern_defs::{Arm, Arms, ListId, ListIds, PatNode};
+use pattern_tree::{Pattern, PatternDraft};
 use std::alloc::{AllocError, Global};
 use syntax_defs::{Item, Options, PatternRefusal};
 

@@ -9,7 +9,7 @@ use crate::late::late_fault;
 use crate::lengths::lengths_of;
 use crate::lower::lower;
 use crate::parse::parse;
-use crate::pattern::Pattern;
+use pattern_tree::Pattern;
 use std::alloc::{AllocError, Global};
 use syntax_defs::{MOST_PATTERN_CHARS, PatternRefusal};
 
@@ -33,19 +33,17 @@ fn read_chars(alloc: Global, text: &[char]) -> Result<Pattern, PatternRefusal>
     Ok(lower(alloc, text, &parsed, &lengths)?)
 }
 
-impl Pattern {
-    /// Reads a pattern from its text: Oniguruma's RE with Ruby syntax. Which forms are left out, the limits and the
-    /// places of refusals are this project's own.
-    pub fn read(alloc: Global, text: &str) -> Result<Pattern, PatternRefusal>
-        ensures { GivesPattern (chars text.now) result (read_pattern (chars text.now)) }
-    {
-        let text = chars_of(alloc, text)?;
-        let count = text.len();
-        if count > MOST_PATTERN_CHARS {
-            return Err(PatternRefusal::TooLong {
-                count: count as u64,
-            });
-        }
-        read_chars(alloc, text.as_slice())
+/// Reads a pattern from its text: Oniguruma's RE with Ruby syntax. Which forms are left out, the limits and the
+/// places of refusals are this project's own.
+pub fn read_pattern(alloc: Global, text: &str) -> Result<Pattern, PatternRefusal>
+    ensures { GivesPattern (chars text.now) result (read_pattern (chars text.now)) }
+{
+    let text = chars_of(alloc, text)?;
+    let count = text.len();
+    if count > MOST_PATTERN_CHARS {
+        return Err(PatternRefusal::TooLong {
+            count: count as u64,
+        });
     }
+    read_chars(alloc, text.as_slice())
 }

@@ -3,10 +3,10 @@ ghost use Rattle.std.specs.List.{list_any};
 ghost use Rattle.syntax_defs.specs.PatternSyntax.{at_place, is_named, next_id, parsed_of, past, rest_of, start, with_group, with_list};
 ghost use Rattle.syntax_defs.specs.Limits.{most_pattern_chars};
 
-use crate::count::counted;
 use crate::head::word_from;
 use crate::parsed::ParsedText;
 use pattern_defs::ListId;
+use pattern_tree::counted;
 use std::alloc::{AllocError, Global};
 use std::marker::Model;
 use syntax_defs::{GroupName, Item, Span};

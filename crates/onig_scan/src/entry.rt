@@ -5,8 +5,8 @@ ghost use Rattle.onig_match.specs.Works.{IsPart};
 
 use crate::front::{Front, MOST_DEEP, front_of};
 use onig_match::{Work, attempt};
-use onig_parse::Pattern;
 use pattern_defs::{Flags, Outcome};
+use pattern_tree::Pattern;
 use std::alloc::{AllocError, Global};
 use std::marker::Model;
 use std::rc::Rc;

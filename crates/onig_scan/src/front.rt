@@ -3,7 +3,7 @@ ghost use Rattle.pattern_defs.specs.Patterns.{nodes_of, IsNode, AreNodes, AllIds
 ghost use Rattle.onig_scan.specs.Fronts.{IsFront, AreFronts, IsFrontOfRepeat, IsWithin, IsWithout};
 
 use char_sets::CharSet;
-use onig_parse::{ListId, PatNode, Pattern};
+use pattern_tree::{ListId, PatNode, Pattern};
 use std::alloc::{AllocError, Global};
 
 /// How many nodes deep a front is looked for, and over how many alternatives.

@@ -9,6 +9,3 @@ pub mod scanner;
 pub use laws::a_greater_budget_changes_no_match;
 pub use pattern_defs::{Flags, Found, Outcome, Place};
 pub use scanner::Scanner;
-
-#[cfg(test)]
-mod tests;

@@ -7,8 +7,8 @@ ghost use Rattle.onig_scan.specs.Answers.{IsAmong, IfAt};
 
 use crate::entry::Entry;
 use onig_match::Work;
-use onig_parse::Pattern;
 use pattern_defs::{Flags, Found, Outcome};
+use pattern_tree::Pattern;
 use std::alloc::{AllocError, Global};
 use std::marker::Model;
 use std::rc::Rc;

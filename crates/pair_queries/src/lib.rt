@@ -4,8 +4,15 @@
 ghost use Rattle.std.specs.Prelude.{◌≡◌, IfOk};
 ghost use Rattle.answer_defs.specs.Answers.{bracket_row, brackets_in, is_in_lines};
 
-pub use answer_defs::{Answer, BracketRow, MarkAt, Question, Rows};
+pub mod places;
+pub mod ranges;
+
+pub use answer_defs::{
+    Answer, BracketRow, GuideRow, GuideRows, MarkAt, PairRow, PairRows, Question, Rows, Twin,
+};
 use bracket_lex::{Paired, Row};
+pub use places::{around, jump, level_at, match_at};
+pub use ranges::{guides, pairs};
 use std::alloc::{AllocError, Global};
 
 /// The brackets of the lines `from` to `to`, in order of the text.

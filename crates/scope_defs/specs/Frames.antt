@@ -1,5 +1,5 @@
 -- The open rules of a run over lines, and tokens, as vscode-textmate's StateStackImpl and IToken have them.
-use Rattle.std.specs.Prelude.{ℕ, suc, List, ◌∷◌, length, map, Bool, Option, None}
+use Rattle.std.specs.Prelude.{ℕ, suc, List, [], ◌∷◌, length, map, Bool, Option, Some, None}
 use Rattle.scope_defs.specs.Scopes.{Scopes}
 
 -- An open rule: its number, the place where it was entered in the line at hand and the anchor of before, whether its
@@ -35,6 +35,11 @@ frames stack = stack.top ∷ stack.below
 
 abbrev pub depth : Stack → ℕ
 depth stack = suc (length stack.below)
+
+-- the stack of some frames, where there are any
+abbrev pub stack_of : List Frame → Option Stack
+stack_of [] = None
+stack_of (top ∷ below) = Some (record { top = top; below = below })
 
 -- a frame on a stack
 abbrev pub on : Frame → Stack → Stack
