@@ -33,7 +33,7 @@ use Rattle.scope_defs.specs.Frames.{Start, Token, frames}
 use Rattle.scope_defs.specs.Selectors.{path_holds}
 use Rattle.rule_defs.specs.Rules.{Match, BeginEnd, BeginWhile, Slot, Never, Read, Later, Entry, Rule, Injection}
 use Rattle.rule_defs.specs.Rules.{no_rule}
-use Rattle.line_defs.specs.ScopeTexts.{is_digit}
+use Rattle.std.specs.Char.{is_ascii_digit}
 use Rattle.line_defs.specs.Machine.{Machine}
 use Rattle.line_defs.specs.Frames.{start_of}
 use Rattle.line_defs.specs.Line.{LineResult, lines_tokenised}
@@ -86,7 +86,7 @@ pattern text = read (reader (codes text))
 abbrev pub has_reference : List ℕ → Bool
 has_reference [] = false
 has_reference (c ∷ []) = false
-has_reference (c ∷ d ∷ cs) = if c == 92 then is_digit d || has_reference (d ∷ cs) else has_reference (d ∷ cs)
+has_reference (c ∷ d ∷ cs) = if c == 92 then is_ascii_digit d || has_reference (d ∷ cs) else has_reference (d ∷ cs)
 
 -- a text of `end` or `while`: one with back references has at most as many groups as `(` and backslashes
 abbrev pub finish : String → Slot
