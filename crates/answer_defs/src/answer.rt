@@ -10,6 +10,9 @@ pub enum Question {
     Line { line: u32 },
 }
 
+/// A question asks for at most so many lines.
+pub const MOST_LINES_OF_A_QUESTION: u32 = 4_096;
+
 /// Where a mark stands: its line, its first column and the column behind its last.
 #[derive(Clone, Copy, Debug, PartialEq, Eq)]
 pub struct MarkAt {

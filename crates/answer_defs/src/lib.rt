@@ -1,10 +1,10 @@
-//! Questions and answers: plain types, and the definitions of what is answered.
+//! Questions and answers: plain types, and the definitions of what is answered, over rows and a text that are given.
 #![tactic(auto)]
 
 pub mod answer;
 pub mod pair_answer;
 pub mod refusal;
 
-pub use answer::{Answer, BracketRow, MarkAt, Question, Rows};
+pub use answer::{Answer, BracketRow, MOST_LINES_OF_A_QUESTION, MarkAt, Question, Rows};
 pub use pair_answer::{GuideRow, GuideRows, PairRow, PairRows, Twin};
-pub use refusal::Refusal;
+pub use refusal::QuestionRefusal;

@@ -1,20 +1,7 @@
-/// Why a script line is refused, in the order of the tests. The causes are this project's own.
+/// Why a question has no answer. The causes are this project's own.
 #[derive(Clone, Copy, Debug, PartialEq, Eq)]
-pub enum Refusal {
-    /// The line has more than 1,048,576 bytes.
-    Long,
-    /// The line isn't UTF-8, or no JSON text, or nests deeper than 127.
-    Json,
-    /// The JSON text is no command.
-    Command,
-    /// An edit's places aren't there, or its end is before its start.
-    Range,
-    /// An edit starts before the end of the one before it.
-    Order,
-    /// The text would have too many characters.
-    Chars,
-    /// The text would have too many lines.
-    Lines,
-    /// A question's lines aren't there, aren't in order, or are more than 4,096.
-    Line,
+pub enum QuestionRefusal {
+    /// A line of it isn't there, or its lines aren't in order or are more than `MOST_LINES_OF_A_QUESTION`; the
+    /// text has so many lines.
+    Line { lines: u64 },
 }

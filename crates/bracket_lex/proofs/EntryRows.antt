@@ -1,5 +1,6 @@
 -- Lists of open entries: the numbers of their rows, and those of one kind.
-use Rattle.std.proofs.Common.{◌≡◌, ℕ, ◌==◌, List, [], ◌∷◌, length, map, Bool, true, refl, sym, ap, ◌∙◌, arith, inl, inr, subst}
+use Rattle.std.proofs.Common.{◌≡◌, ℕ, ◌==◌, List, [], ◌∷◌, length, map, Bool, true, refl, sym, ap, ◌∙◌, arith, inl}
+use Rattle.std.proofs.Common.{inr, subst}
 use Rattle.std.specs.List.{filter}
 use Rattle.std.proofs.lemmas.Bool.{cases_Bool}
 use Rattle.std.proofs.lemmas.List.{length-map}
@@ -33,12 +34,16 @@ entry_of (x ∷ es) k (inr deeper) =
     let found : EntryOf k es = entry_of es k deeper in
     record { entry = found.entry; row = found.row; among = (found.among.0, inr found.among.1) }
 
-pub counted : (n : ℕ) (Holds : ℕ → Type 0) (es : List Entry) (count : ℕ) → IsStack n es → length es ≡ count → ((e : Entry) → IsIn e es → Holds e.row) → ((k : ℕ) → Holds k → EntryOf k es) → Counts n Holds count
+pub counted : (n : ℕ) (Holds : ℕ → Type 0) (es : List Entry) (count : ℕ) → IsStack n es → length es ≡ count
+    → ((e : Entry) → IsIn e es → Holds e.row) → ((k : ℕ) → Holds k → EntryOf k es) → Counts n Holds count
 counted n Holds es count stack many only all = record {
   numbers = rows_in es;
   fall = rows_fall n es stack;
-  only = λ k among. (let found : EntryOf k es = entry_of es k among in subst Holds found.row (only found.entry found.among));
-  all = λ k holds. (let found : EntryOf k es = all k holds in subst (λ j. IsAmong j (rows_in es)) found.row (row_among es found.entry found.among.0 found.among.1));
+  only = λ k among. (let found : EntryOf k es =
+      entry_of es k among in subst Holds found.row (only found.entry found.among));
+  all = λ k holds. (let found : EntryOf k es =
+      all k holds in subst (λ j. IsAmong j (rows_in es)) found.row
+      (row_among es found.entry found.among.0 found.among.1));
   many = length-map es (λ e. e.row) ∙ many;
 }
 
@@ -50,16 +55,19 @@ pub filter_falls : (p : Entry → Bool) (n : ℕ) (es : List Entry) → IsStack 
 filter_falls p n [] stack = tt
 filter_falls p n (e ∷ es) stack = elim (cases_Bool (p e)) [
   | inl passes ↦ rw passes (stack.0, filter_falls p e.row es stack.1)
-  | inr fails ↦ rw fails (let falls = stack.0 in stack_more e.row n (filter p es) (filter_falls p e.row es stack.1) (omega arith))
+  | inr fails ↦ rw fails (let falls = stack.0 in
+      stack_more e.row n (filter p es) (filter_falls p e.row es stack.1) (omega arith))
 ]
 
-filter_more : (p : Entry → Bool) (x : Entry) (es : List Entry) (e : Entry) → IsIn e (filter p es) → IsIn e (filter p (x ∷ es))
+filter_more : (p : Entry → Bool) (x : Entry) (es : List Entry) (e : Entry) → IsIn e (filter p es)
+    → IsIn e (filter p (x ∷ es))
 filter_more p x es e among = elim (cases_Bool (p x)) [
   | inl passes ↦ rw passes (among.0, inr among.1)
   | inr fails ↦ rw fails among
 ]
 
-pub into_filter : (p : Entry → Bool) (es : List Entry) (e : Entry) (under : List Entry) → IsEntry e under es → p e ≡ true → IsIn e (filter p es)
+pub into_filter : (p : Entry → Bool) (es : List Entry) (e : Entry) (under : List Entry) → IsEntry e under es → p e
+    ≡ true → IsIn e (filter p es)
 into_filter p [] e under among passes = absurd among
 into_filter p (x ∷ es) e under (inl same) passes = rw (ap p same.0 ∙ passes) (filter p es, inl (same.0, refl))
 into_filter p (x ∷ es) e under (inr deeper) passes = filter_more p x es e (into_filter p es e under deeper passes)
@@ -71,12 +79,15 @@ pub record Filtered (p : Entry → Bool) (es : List Entry) (e : Entry) : Type 0 
 filtered_more : (p : Entry → Bool) (x : Entry) (es : List Entry) (e : Entry) → Filtered p es e → Filtered p (x ∷ es) e
 filtered_more p x es e f = record { among = (f.among.0, inr f.among.1); passes = f.passes }
 
-filtered_here : (p : Entry → Bool) (x : Entry) (es : List Entry) (e : Entry) (under : List Entry) → p x ≡ true → ((under : List Entry) → IsEntry e under (filter p es) → Filtered p es e)
+filtered_here : (p : Entry → Bool) (x : Entry) (es : List Entry) (e : Entry) (under : List Entry) → p x ≡ true
+    → ((under : List Entry) → IsEntry e under (filter p es) → Filtered p es e)
     → IsEntry e under (x ∷ filter p es) → Filtered p (x ∷ es) e
-filtered_here p x es e under passes later (inl same) = record { among = (es, inl (same.0, refl)); passes = ap p (sym same.0) ∙ passes }
+filtered_here p x es e under passes later (inl same) =
+    record { among = (es, inl (same.0, refl)); passes = ap p (sym same.0) ∙ passes }
 filtered_here p x es e under passes later (inr deeper) = filtered_more p x es e (later under deeper)
 
-pub from_filter : (p : Entry → Bool) (es : List Entry) (e : Entry) (under : List Entry) → IsEntry e under (filter p es) → Filtered p es e
+pub from_filter : (p : Entry → Bool) (es : List Entry) (e : Entry) (under : List Entry)
+    → IsEntry e under (filter p es) → Filtered p es e
 from_filter p [] e under among = absurd among
 from_filter p (x ∷ es) e under among = elim (cases_Bool (p x)) [
   | inl passes ↦ filtered_here p x es e under passes (from_filter p es e) (rw passes at among)

@@ -1,30 +1,50 @@
 -- The longest text that stands at a place.
-use Rattle.std.proofs.Common.{◌≡◌, ℕ, ◌+◌, ◌<◌, ◌≤◌, ◌==◌, ◌⊎◌, Bool, true, false, if◌then◌else◌, ltb, List, [], ◌∷◌, ◌++◌, length, take, drop, get_or, Option, Some, None, refl, sym, ap, arith, inl, inr, length-append, add-one, subst, nat_eq}
+use Rattle.std.proofs.Common.{◌≡◌, ℕ, ◌+◌, ◌<◌, ◌≤◌, ◌==◌, ◌⊎◌, ◌&&◌, Bool, true, false, if◌then◌else◌, ltb, List, []}
+use Rattle.std.proofs.Common.{◌∷◌}
+use Rattle.std.proofs.Common.{◌++◌, length, take, drop, get_or, Option, Some, None, refl, sym, ap, arith, inl, inr}
+use Rattle.std.proofs.Common.{length-append, add-one, subst, nat_eq}
 use Rattle.std.specs.List.{filter, starts_with}
-use Rattle.std.proofs.lemmas.Bool.{cases_lt, cases_Bool, cases_cond, lt-ltb, le-ltb, false≢true}
+use Rattle.std.proofs.lemmas.Bool.{and_parts, cases_lt, cases_Bool, cases_cond, lt-ltb, le-ltb, false≢true}
 use Rattle.std.proofs.lemmas.Bool.Decides.{Decides-eqb, nat_tests}
 use Rattle.std.proofs.lemmas.List.Elements.{filter-append}
 use Rattle.std.proofs.lemmas.List.{append-nil}
 use Rattle.std.proofs.lemmas.Slice.Eq.{starts_is}
 use Rattle.std.proofs.Math.Seq.{take-suc}
 use Rattle.pairing_defs.specs.declared.BracketText.{BracketText}
-use Rattle.pairing_defs.specs.Marks.{stands_at, longer, longest, bracket_at}
+use Rattle.pairing_defs.specs.Marks.{all_count, stands_at, longer, longest, bracket_at}
 use Rattle.bracket_lex.specs.Longest.{or_longer}
 
 -- of three lengths
 longer-or_longer-Some : (x a b : BracketText) → longer x (or_longer (Some a) b) ≡ or_longer (longer x (Some a)) b
 longer-or_longer-Some x a b = elim (cases_lt (length a.text) (length b.text)) [
   | inl p ↦ elim (cases_lt (length x.text) (length a.text)) [
-    | inl q ↦ rw (lt-ltb (length a.text) (length b.text) p, lt-ltb (length x.text) (length a.text) q, lt-ltb (length x.text) (length b.text) (omega arith), lt-ltb (length a.text) (length b.text) p) refl
+    | inl q ↦ rw (
+      lt-ltb (length a.text) (length b.text) p,
+      lt-ltb (length x.text) (length a.text) q,
+      lt-ltb
+          (length x.text) (length b.text) (omega arith),
+      lt-ltb (length a.text) (length b.text) p,
+    ) refl
     | inr q ↦ rw (lt-ltb (length a.text) (length b.text) p, le-ltb (length x.text) (length a.text) q) refl
   ]
   | inr p ↦ elim (cases_lt (length x.text) (length a.text)) [
-    | inl q ↦ rw (le-ltb (length a.text) (length b.text) p, lt-ltb (length x.text) (length a.text) q, le-ltb (length a.text) (length b.text) p) refl
-    | inr q ↦ rw (le-ltb (length a.text) (length b.text) p, le-ltb (length x.text) (length a.text) q, le-ltb (length x.text) (length b.text) (omega arith)) refl
+    | inl q ↦ rw (
+      le-ltb (length a.text) (length b.text) p,
+      lt-ltb (length x.text) (length a.text) q,
+      le-ltb
+          (length a.text) (length b.text) p,
+    ) refl
+    | inr q ↦ rw (
+      le-ltb (length a.text) (length b.text) p,
+      le-ltb (length x.text) (length a.text) q,
+      le-ltb
+          (length x.text) (length b.text) (omega arith),
+    ) refl
   ]
 ]
 
-longer-or_longer : (x : BracketText) (o : Option BracketText) (b : BracketText) → longer x (or_longer o b) ≡ or_longer (longer x o) b
+longer-or_longer : (x : BracketText) (o : Option BracketText) (b : BracketText) → longer x (or_longer o b)
+    ≡ or_longer (longer x o) b
 longer-or_longer x None b = refl
 longer-or_longer x (Some a) b = longer-or_longer-Some x a b
 
@@ -32,15 +52,19 @@ longest-push : (xs : List BracketText) (b : BracketText) → longest (xs ++ b �
 longest-push [] b = refl
 longest-push (x ∷ xs) b = rw (longest-push xs b) (longer-or_longer x (longest xs) b)
 
-filter-push : (p : BracketText → Bool) (xs : List BracketText) (i : ℕ) (b : BracketText) → i < length xs → b ≡ get_or xs i b
+filter-push : (p : BracketText → Bool) (xs : List BracketText) (i : ℕ) (b : BracketText) → i < length xs → b
+    ≡ get_or xs i b
     → filter p (take (i + 1) xs) ≡ filter p (take i xs) ++ (if p b then (b ∷ []) else [])
 filter-push p xs i b below is = rw (add-one i, take-suc xs i b below, ← is, filter-append p (take i xs) (b ∷ [])) refl
 
-pub longest_yes : (p : BracketText → Bool) (xs : List BracketText) (i : ℕ) (b : BracketText) → i < length xs → b ≡ get_or xs i b → p b ≡ true
+pub longest_yes : (p : BracketText → Bool) (xs : List BracketText) (i : ℕ) (b : BracketText) → i < length xs → b
+    ≡ get_or xs i b → p b ≡ true
     → longest (filter p (take (i + 1) xs)) ≡ or_longer (longest (filter p (take i xs))) b
-longest_yes p xs i b below is passes = rw (filter-push p xs i b below is, passes) (longest-push (filter p (take i xs)) b)
+longest_yes p xs i b below is passes = rw (filter-push p xs i b below is, passes)
+    (longest-push (filter p (take i xs)) b)
 
-pub longest_no : (p : BracketText → Bool) (xs : List BracketText) (i : ℕ) (b : BracketText) → i < length xs → b ≡ get_or xs i b → p b ≡ false
+pub longest_no : (p : BracketText → Bool) (xs : List BracketText) (i : ℕ) (b : BracketText) → i < length xs → b
+    ≡ get_or xs i b → p b ≡ false
     → longest (filter p (take (i + 1) xs)) ≡ longest (filter p (take i xs))
 longest_no p xs i b below is fails = rw (filter-push p xs i b below is, fails, append-nil (filter p (take i xs))) refl
 
@@ -52,7 +76,8 @@ longer_is x (Some a) b e = elim (cases_cond (ltb (length x.text) (length a.text)
   | inr here ↦ inl (cc)
 ]
 
-pub longest_passes : (p : BracketText → Bool) (xs : List BracketText) (b : BracketText) → longest (filter p xs) ≡ Some b → p b ≡ true
+pub longest_passes : (p : BracketText → Bool) (xs : List BracketText) (b : BracketText) → longest (filter p xs)
+    ≡ Some b → p b ≡ true
 longest_passes p [] b e = cc
 longest_passes p (x ∷ xs) b e = elim (cases_Bool (p x)) [
   | inl passes ↦ elim (longer_is x (longest (filter p xs)) b (rw passes at e)) [
@@ -72,11 +97,19 @@ starts_fits rest text e =
 pub not_empty : (n : ℕ) → 0 < n → (n == 0) ≡ false
 not_empty n h = grind (arith, nat_tests)
 
-stands_by : (rest text : List ℕ) → (if length text == 0 then false else starts_with nat_eq rest text) ≡ true → (0 < length text) × (length text ≤ length rest)
-stands_by rest [] e = absurd (false≢true e)
-stands_by rest (c ∷ cs) e =
+-- a text that passes isn't empty, and stands at the front
+pub stands_by : (rest text : List ℕ) (counted : Bool)
+    → (if length text == 0 then false else starts_with nat_eq rest text && counted) ≡ true
+    → (0 < length text) × (starts_with nat_eq rest text ≡ true) × (counted ≡ true)
+stands_by rest [] counted e = absurd (false≢true e)
+stands_by rest (c ∷ cs) counted e =
     let some : 0 < length (c ∷ cs) = omega arith in
-    (some, starts_fits rest (c ∷ cs) (rw (not_empty (length (c ∷ cs)) some) at e))
+    let both = and_parts (starts_with nat_eq rest (c ∷ cs)) counted (rw (not_empty (length (c ∷ cs)) some) at e) in
+    (some, both.0, both.1)
 
-pub bracket_fits : (texts : List BracketText) (rest : List ℕ) (b : BracketText) → bracket_at texts rest ≡ Some b → (0 < length b.text) × (length b.text ≤ length rest)
-bracket_fits texts rest b e = stands_by rest b.text (longest_passes (stands_at rest) texts b e)
+pub bracket_fits : (texts : List BracketText) (counts : ℕ → Bool) (line : List ℕ) (column : ℕ) (b : BracketText)
+    → bracket_at texts counts line column ≡ Some b → (0 < length b.text) × (length b.text ≤ length (drop column line))
+bracket_fits texts counts line column b e =
+    let stands = stands_by (drop column line) b.text (all_count counts column (length b.text))
+    (longest_passes (stands_at counts line column) texts b e) in
+    (stands.0, starts_fits (drop column line) b.text stands.1)

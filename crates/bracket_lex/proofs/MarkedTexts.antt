@@ -1,5 +1,7 @@
 -- The lines of a text and their marks.
-use Rattle.std.proofs.Common.{◌≡◌, ℕ, zero, suc, ◌+◌, ◌-◌, ◌<◌, ◌≤◌, ◌==◌, Bool, true, false, if◌then◌else◌, nat_le, List, [], ◌∷◌, ◌++◌, length, map, take, get_or, refl, ap, ◌∙◌, arith, length-append, add-one, Option, Some, None}
+use Rattle.std.proofs.Common.{◌≡◌, ℕ, zero, suc, ◌+◌, ◌-◌, ◌<◌, ◌≤◌, ◌==◌, Bool, true, false, if◌then◌else◌, nat_le}
+use Rattle.std.proofs.Common.{List, [], ◌∷◌, ◌++◌, length, map, take, get_or, refl, ap, ◌∙◌, arith, length-append}
+use Rattle.std.proofs.Common.{add-one, Option, Some, None}
 use Rattle.std.specs.List.{sum_by}
 use Rattle.std.proofs.lemmas.List.{length-map, map-append, take_all}
 use Rattle.std.proofs.lemmas.List.Sums.{sum_by-cons}
@@ -8,7 +10,9 @@ use Rattle.text_defs.specs.Text.{lines_of, line_in, onto_first, all_but_last, la
 use Rattle.text_defs.specs.Place.{place_of}
 use Rattle.pairing_defs.specs.declared.BracketText.{BracketText}
 use Rattle.pairing_defs.specs.declared.LineMark.{LineMark}
-use Rattle.pairing_defs.specs.Marks.{bracket_at, marked, further, marks_from, marks_of, on_line, marks_of_lines, text_marks}
+use Rattle.pairing_defs.specs.Marks.{every_column, bracket_at, marked, further, marks_from, marks_of, on_line}
+use Rattle.pairing_defs.specs.Marks.{marks_of_lines}
+use Rattle.pairing_defs.specs.Marks.{text_marks}
 use Rattle.bracket_lex.specs.MarkedLine.{MarkedLine, last_length, text_end, marks_in, marked_line}
 
 -- ---- one more line
@@ -17,31 +21,49 @@ line_in-get_or [] n d h = absurd (omega arith)
 line_in-get_or (line ∷ lines) zero d h = refl
 line_in-get_or (line ∷ lines) (suc n) d h = line_in-get_or lines n d (omega arith)
 
-same_line : (a b : List LineMark) (m n : ℕ) → a ≡ b → m ≡ n → ◌≡◌ {A = MarkedLine} (record { marks = a; length = m }) (record { marks = b; length = n })
+same_line : (a b : List LineMark) (m n : ℕ) → a ≡ b → m ≡ n
+    → ◌≡◌ {A = MarkedLine} (record { marks = a; length = m }) (record { marks = b; length = n })
 same_line a b m n e f = rw (e, f) refl
 
-pub lines_more : (texts : List BracketText) (long n : ℕ) (lines : List (List ℕ)) (old new : List MarkedLine) (line : MarkedLine) → n < length lines
+pub lines_more : (texts : List BracketText) (long n : ℕ) (lines : List (List ℕ)) (old new : List MarkedLine)
+    (line : MarkedLine) → n < length lines
     → old ≡ map (marked_line texts long) (take n lines)
-    → line.marks ≡ marks_of texts long (line_in lines n) → line.length ≡ length (line_in lines n)
+    → line.marks ≡ marks_of texts long every_column (line_in lines n) → line.length ≡ length (line_in lines n)
     → new ≡ old ++ line ∷ []
     → new ≡ map (marked_line texts long) (take (n + 1) lines)
 lines_more texts long n lines old new line below before marks len is =
-    let here : line ≡ marked_line texts long (line_in lines n) = same_line line.marks (marks_of texts long (line_in lines n)) line.length (length (line_in lines n)) marks len in
-    rw (is, before, here, add-one n, take-suc lines n [] below, line_in-get_or lines n [] below, map-append (marked_line texts long) (take n lines) (get_or lines n [] ∷ [])) refl
+    let here : line ≡ marked_line texts long (line_in lines n) =
+    same_line line.marks (marks_of texts long every_column (line_in lines n)) line.length (length (line_in lines n))
+    marks len in
+    rw (
+      is,
+      before,
+      here,
+      add-one n,
+      take-suc lines n [] below,
+      line_in-get_or lines n [] below,
+      map-append
+          (marked_line texts long) (take n lines) (get_or lines n [] ∷ []),
+    ) refl
 
 -- ---- the whole text
-pub lines_all : (texts : List BracketText) (long n : ℕ) (lines : List (List ℕ)) (new : List MarkedLine) → length lines ≤ n
+pub lines_all : (texts : List BracketText) (long n : ℕ) (lines : List (List ℕ)) (new : List MarkedLine)
+    → length lines ≤ n
     → new ≡ map (marked_line texts long) (take n lines) → new ≡ map (marked_line texts long) lines
 lines_all texts long n lines new all is = is ∙ ap (map (marked_line texts long)) (take_all n lines all)
 
-marks_only : (texts : List BracketText) (long : ℕ) (lines : List (List ℕ)) → map (λ line. line.marks) (map (marked_line texts long) lines) ≡ map (marks_of texts long) lines
+marks_only : (texts : List BracketText) (long : ℕ) (lines : List (List ℕ))
+    → map (λ line. line.marks) (map (marked_line texts long) lines) ≡ map (marks_of texts long every_column) lines
 marks_only texts long [] = refl
-marks_only texts long (line ∷ lines) = ap (λ rest. marks_of texts long line ∷ rest) (marks_only texts long lines)
+marks_only texts long (line ∷ lines) = ap (λ rest. marks_of texts long every_column line ∷ rest)
+    (marks_only texts long lines)
 
-pub marks_in-marked : (texts : List BracketText) (long : ℕ) (lines : List (List ℕ)) → marks_in (map (marked_line texts long) lines) ≡ text_marks texts long lines
+pub marks_in-marked : (texts : List BracketText) (long : ℕ) (lines : List (List ℕ))
+    → marks_in (map (marked_line texts long) lines) ≡ text_marks texts long lines
 marks_in-marked texts long lines = ap (marks_of_lines 0) (marks_only texts long lines)
 
-last_length-marked : (texts : List BracketText) (long : ℕ) (lines : List (List ℕ)) → last_length (map (marked_line texts long) lines) ≡ length (last_line lines)
+last_length-marked : (texts : List BracketText) (long : ℕ) (lines : List (List ℕ))
+    → last_length (map (marked_line texts long) lines) ≡ length (last_line lines)
 last_length-marked texts long [] = refl
 last_length-marked texts long (line ∷ []) = refl
 last_length-marked texts long (line ∷ next ∷ rest) = last_length-marked texts long (next ∷ rest)
@@ -51,42 +73,58 @@ length-all_but_last [] = refl
 length-all_but_last (line ∷ []) = refl
 length-all_but_last (line ∷ next ∷ rest) = let before = length-all_but_last (next ∷ rest) in omega arith
 
-pub text_end-marked : (texts : List BracketText) (long : ℕ) (text : List ℕ) → text_end (map (marked_line texts long) (lines_of text)) ≡ place_of text (length text)
+pub text_end-marked : (texts : List BracketText) (long : ℕ) (text : List ℕ)
+    → text_end (map (marked_line texts long) (lines_of text)) ≡ place_of text (length text)
 text_end-marked texts long text =
-    rw (take-length text, length-map (lines_of text) (marked_line texts long), last_length-marked texts long (lines_of text), length-all_but_last (lines_of text)) refl
+    rw (
+      take-length text,
+      length-map (lines_of text) (marked_line texts long),
+      last_length-marked texts long
+          (lines_of text),
+      length-all_but_last (lines_of text),
+    ) refl
 
 -- ---- no more marks than characters
-one_more : (column : ℕ) (found : Option BracketText) (rest : List LineMark) (n : ℕ) → length rest ≤ n → length (marked column found ++ rest) ≤ suc n
+one_more : (column : ℕ) (found : Option BracketText) (rest : List LineMark) (n : ℕ) → length rest ≤ n
+    → length (marked column found ++ rest) ≤ suc n
 one_more column None rest n h = omega arith
 one_more column (Some b) rest n h = omega arith
 
-marked_few : (texts : List BracketText) (taken column : ℕ) (cs : List ℕ) → length (marks_from texts taken column cs) ≤ length cs
-marked_few texts taken column [] = omega arith
-marked_few texts (suc taken) column (c ∷ cs) = let rest = marked_few texts taken (column + 1) cs in omega arith
-marked_few texts zero column (c ∷ cs) =
-    one_more column (bracket_at texts (c ∷ cs)) (marks_from texts (further (bracket_at texts (c ∷ cs))) (column + 1) cs) (length cs)
-    (marked_few texts (further (bracket_at texts (c ∷ cs))) (column + 1) cs)
+marked_few : (found : ℕ → Option BracketText) (left taken column : ℕ)
+    → length (marks_from found taken column left) ≤ left
+marked_few found zero taken column = omega arith
+marked_few found (suc left) (suc taken) column = let rest = marked_few found left taken (column + 1) in omega arith
+marked_few found (suc left) zero column =
+    one_more column (found column) (marks_from found (further (found column)) (column + 1) left) left
+    (marked_few found left (further (found column)) (column + 1))
 
 unless_long : (long : Bool) (marks : List LineMark) (n : ℕ) → length marks ≤ n → length (if long then [] else marks) ≤ n
 unless_long true marks n h = omega arith
 unless_long false marks n h = h
 
-marks_few : (texts : List BracketText) (long : ℕ) (line : List ℕ) → length (marks_of texts long line) ≤ length line
-marks_few texts long line = unless_long (nat_le long (length line)) (marks_from texts 0 0 line) (length line) (marked_few texts 0 0 line)
+marks_few : (texts : List BracketText) (long : ℕ) (line : List ℕ)
+    → length (marks_of texts long every_column line) ≤ length line
+marks_few texts long line =
+    let found = bracket_at texts every_column line in
+    unless_long (nat_le long (length line)) (marks_from found 0 0 (length line)) (length line)
+    (marked_few found (length line) 0 0)
 
-lines_few : (texts : List BracketText) (long n : ℕ) (lines : List (List ℕ)) → length (marks_of_lines n (map (marks_of texts long) lines)) ≤ sum_by length lines
+lines_few : (texts : List BracketText) (long n : ℕ) (lines : List (List ℕ))
+    → length (marks_of_lines n (map (marks_of texts long every_column) lines)) ≤ sum_by length lines
 lines_few texts long n [] = omega arith
 lines_few texts long n (line ∷ lines) =
     let here = marks_few texts long line in
     let rest = lines_few texts long (n + 1) lines in
-    let total = length-append (map (on_line n) (marks_of texts long line)) (marks_of_lines (n + 1) (map (marks_of texts long) lines)) in
-    omega (arith, total, length-map (marks_of texts long line) (on_line n), sum_by-cons length line lines)
+    let total = length-append (map (on_line n) (marks_of texts long every_column line))
+    (marks_of_lines (n + 1) (map (marks_of texts long every_column) lines)) in
+    omega (arith, total, length-map (marks_of texts long every_column line) (on_line n), sum_by-cons length line lines)
 
 onto_few : (c : ℕ) (lines : List (List ℕ)) → sum_by length (onto_first c lines) ≤ suc (sum_by length lines)
 onto_few c [] = omega arith
 onto_few c (line ∷ lines) = omega (arith, sum_by-cons length (c ∷ line) lines, sum_by-cons length line lines)
 
-before_few : (lf : Bool) (c : ℕ) (lines : List (List ℕ)) → sum_by length (if lf then ([] ∷ lines) else onto_first c lines) ≤ suc (sum_by length lines)
+before_few : (lf : Bool) (c : ℕ) (lines : List (List ℕ))
+    → sum_by length (if lf then ([] ∷ lines) else onto_first c lines) ≤ suc (sum_by length lines)
 before_few true c lines = omega (arith, sum_by-cons {X = List ℕ} length [] lines)
 before_few false c lines = onto_few c lines
 
@@ -94,5 +132,7 @@ chars_few : (text : List ℕ) → sum_by length (lines_of text) ≤ length text
 chars_few [] = omega arith
 chars_few (c ∷ cs) = let rest = chars_few cs in let here = before_few (c == 10) c (lines_of cs) in omega arith
 
-pub text_few : (texts : List BracketText) (long : ℕ) (text : List ℕ) → length (text_marks texts long (lines_of text)) ≤ length text
-text_few texts long text = let marks = lines_few texts long 0 (lines_of text) in let chars = chars_few text in omega arith
+pub text_few : (texts : List BracketText) (long : ℕ) (text : List ℕ)
+    → length (text_marks texts long (lines_of text)) ≤ length text
+text_few texts long text = let marks = lines_few texts long 0 (lines_of text) in let chars =
+    chars_few text in omega arith

@@ -1,5 +1,6 @@
 -- Marks rise, and leave no text out.
-use Rattle.std.proofs.Common.{◌≡◌, ℕ, zero, suc, ◌+◌, ◌-◌, ◌<◌, ◌≤◌, List, [], ◌∷◌, ◌++◌, length, drop, Option, Some, None, refl, ap, ◌∙◌, arith, inl, inr, length-drop}
+use Rattle.std.proofs.Common.{◌≡◌, ℕ, zero, suc, ◌+◌, ◌-◌, ◌<◌, ◌≤◌, List, [], ◌∷◌, ◌++◌, length, drop, Option, Some}
+use Rattle.std.proofs.Common.{None, refl, sym, ap, ◌∙◌, arith, inl, inr, length-drop}
 use Rattle.std.specs.Prelude.{slice_get}
 use Rattle.std.proofs.lemmas.Bool.{cases_lt}
 use Rattle.pairing_defs.specs.declared.BracketText.{BracketText}
@@ -11,32 +12,37 @@ use Rattle.bracket_lex.proofs.TextsThatStand.{LongestOf, some_longest}
 use Rattle.bracket_lex.proofs.MarkedColumns.{MarkAt, mark_from, some_mark, marks_short}
 
 -- ---- order
-rise_here : (texts : List BracketText) (column c : ℕ) (cs : List ℕ) (found : Option BracketText) (k l : ℕ) (mark later : LineMark)
-    → ((n k l : ℕ) → slice_get (marks_from texts n (column + 1) cs) k ≡ Some mark → slice_get (marks_from texts n (column + 1) cs) l ≡ Some later → k < l → mark.to ≤ later.from)
-    → slice_get (marked column found ++ marks_from texts (further found) (column + 1) cs) k ≡ Some mark
-    → slice_get (marked column found ++ marks_from texts (further found) (column + 1) cs) l ≡ Some later → k < l
-    → mark.to ≤ later.from
-rise_here texts column c cs None k l mark later rest there there_later order = rest 0 k l there there_later order
-rise_here texts column c cs (Some b) k zero mark later rest there there_later order = absurd (omega arith)
-rise_here texts column c cs (Some b) zero (suc l) mark later rest there there_later order =
-    let made : record { from = column; to = column + length b.text; role = b.role } ≡ mark = cc in
-    let to : column + length b.text ≡ mark.to = ap (λ m. m.to) made in
-    let m : MarkAt texts (length b.text - 1) (column + 1) cs later = mark_from texts cs (length b.text - 1) (column + 1) l later there_later in
-    let behind = m.behind in
-    let from = m.from in
-    omega arith
-rise_here texts column c cs (Some b) (suc k) (suc l) mark later rest there there_later order = rest (length b.text - 1) k l there there_later (omega arith)
+module _ (found : ℕ → Option BracketText) (mark later : LineMark) where
+  rise_here : (column left : ℕ) (here : Option BracketText) (k l : ℕ)
+      → ((n k l : ℕ) → slice_get (marks_from found n (column + 1) left) k ≡ Some mark
+      → slice_get (marks_from found n (column + 1) left) l ≡ Some later → k < l → mark.to ≤ later.from)
+      → slice_get (marked column here ++ marks_from found (further here) (column + 1) left) k ≡ Some mark
+      → slice_get (marked column here ++ marks_from found (further here) (column + 1) left) l ≡ Some later → k < l
+      → mark.to ≤ later.from
+  rise_here column left None k l rest there there_later order = rest 0 k l there there_later order
+  rise_here column left (Some b) k zero rest there there_later order = absurd (omega arith)
+  rise_here column left (Some b) zero (suc l) rest there there_later order =
+      let made : record { from = column; to = column + length b.text; role = b.role } ≡ mark = cc in
+      let to : column + length b.text ≡ mark.to = ap (λ m. m.to) made in
+      let m : MarkAt found later (length b.text - 1) (column + 1) left =
+      mark_from found later left (length b.text - 1) (column + 1) l there_later in
+      let behind = m.behind in
+      omega arith
+  rise_here column left (Some b) (suc k) (suc l) rest there there_later order =
+      rest (length b.text - 1) k l there there_later (omega arith)
 
-rise : (texts : List BracketText) (cs : List ℕ) (taken column k l : ℕ) (mark later : LineMark)
-    → slice_get (marks_from texts taken column cs) k ≡ Some mark → slice_get (marks_from texts taken column cs) l ≡ Some later → k < l → mark.to ≤ later.from
-rise texts [] taken column k l mark later there there_later order = absurd (cc)
-rise texts (c ∷ cs) zero column k l mark later there there_later order =
-    rise_here texts column c cs (bracket_at texts (c ∷ cs)) k l mark later (λ n i j. rise texts cs n (column + 1) i j mark later) there there_later order
-rise texts (c ∷ cs) (suc taken) column k l mark later there there_later order = rise texts cs taken (column + 1) k l mark later there there_later order
+  rise : (left taken column k l : ℕ) → slice_get (marks_from found taken column left) k ≡ Some mark
+      → slice_get (marks_from found taken column left) l ≡ Some later → k < l → mark.to ≤ later.from
+  rise zero taken column k l there there_later order = absurd (cc)
+  rise (suc left) zero column k l there there_later order =
+      rise_here column left (found column) k l (λ n i j. rise left n (column + 1) i j) there there_later order
+  rise (suc left) (suc taken) column k l there there_later order =
+      rise left taken (column + 1) k l there there_later order
 
 pub marks_rise : MarksRise
-marks_rise texts long line k l mark later there there_later order =
-    rise texts line 0 0 k l mark later (some_mark texts long line k mark there) (some_mark texts long line l later there_later) order
+marks_rise texts long counts line k l mark later there there_later order =
+    rise (bracket_at texts counts line) mark later (length line) 0 0 k l (some_mark texts long counts line k mark there)
+    (some_mark texts long counts line l later there_later) order
 
 -- ---- nothing is missed
 -- a mark has the column
@@ -47,46 +53,58 @@ record Covered (marks : List LineMark) (column : ℕ) : Type 0 where
   from : mark.from ≤ column
   to : column < mark.to
 
-more_covered : (texts : List BracketText) (n column o : ℕ) (cs : List ℕ) (front : List LineMark) → Covered (marks_from texts n (column + 1) cs) (column + 1 + o)
-    → Covered (front ++ marks_from texts n (column + 1) cs) (column + suc o)
-more_covered texts n column o cs [] r =
-    let from = r.from in
-    let to = r.to in
-    record { place = r.place; mark = r.mark; there = r.there; from = omega arith; to = omega arith }
-more_covered texts n column o cs (m ∷ front) r =
-    let more : Covered (front ++ marks_from texts n (column + 1) cs) (column + suc o) = more_covered texts n column o cs front r in
+more_covered : (front marks : List LineMark) (column : ℕ) → Covered marks column → Covered (front ++ marks) column
+more_covered [] marks column r = r
+more_covered (m ∷ front) marks column r =
+    let more : Covered (front ++ marks) column = more_covered front marks column r in
     record { place = suc more.place; mark = more.mark; there = more.there; from = more.from; to = more.to }
 
-covered_here : (texts : List BracketText) (column c offset : ℕ) (cs : List ℕ) (found : Option BracketText) (b : BracketText) → bracket_at texts (c ∷ cs) ≡ found
-    → bracket_at texts (drop offset (c ∷ cs)) ≡ Some b
-    → ((n o : ℕ) → n ≤ o → bracket_at texts (drop o cs) ≡ Some b → Covered (marks_from texts n (column + 1) cs) (column + 1 + o))
-    → Covered (marked column found ++ marks_from texts (further found) (column + 1) cs) (column + offset)
-covered_here texts column c zero cs None b is stands rest = absurd (cc)
-covered_here texts column c (suc o) cs None b is stands rest = more_covered texts 0 column o cs [] (rest 0 o (omega arith) stands)
-covered_here texts column c zero cs (Some a) b is stands rest =
-    let fits : (0 < length a.text) × (length a.text ≤ length (c ∷ cs)) = bracket_fits texts (c ∷ cs) a is in
-    record { place = 0; mark = record { from = column; to = column + length a.text; role = a.role }; there = refl; from = omega arith; to = omega arith }
-covered_here texts column c (suc o) cs (Some a) b is stands rest = elim (cases_lt (suc o) (length a.text)) [
-  | inl within ↦ record { place = 0; mark = record { from = column; to = column + length a.text; role = a.role }; there = refl; from = omega arith; to = omega arith }
-  | inr behind ↦
-      more_covered texts (length a.text - 1) column o cs (record { from = column; to = column + length a.text; role = a.role } ∷ []) (rest (length a.text - 1) o (omega arith) stands)
-]
+module _ (found : ℕ → Option BracketText) (at : ℕ) (b : BracketText) (is : found at ≡ Some b)
+    (some : (column : ℕ) (a : BracketText) → found column ≡ Some a → 0 < length a.text) where
+  covered_here : (column left : ℕ) (here : Option BracketText) → found column ≡ here → column ≤ at
+      → ((n : ℕ) → column + 1 + n ≤ at → Covered (marks_from found n (column + 1) left) at)
+      → Covered (marked column here ++ marks_from found (further here) (column + 1) left) at
+  covered_here column left None none low rest = elim (cases_lt column at) [
+    | inl behind ↦ rest 0 (omega arith)
+    | inr here ↦
+        let same : column ≡ at = omega arith in
+        let both : None ≡ Some b = sym none ∙ ap found same ∙ is in
+        absurd (cc)
+  ]
+  covered_here column left (Some a) this low rest = elim (cases_lt at (column + length a.text)) [
+    | inl within ↦ record {
+      place = 0;
+      mark = record { from = column; to = column + length a.text; role = a.role };
+      there = refl;
+      from = omega arith;
+      to = omega arith;
+    }
+    | inr behind ↦
+        let long = some column a this in
+        more_covered (marked column (Some a)) (marks_from found (length a.text - 1) (column + 1) left) at
+        (rest (length a.text - 1) (omega arith))
+  ]
 
-covered : (texts : List BracketText) (cs : List ℕ) (taken column offset : ℕ) (b : BracketText) → taken ≤ offset → bracket_at texts (drop offset cs) ≡ Some b
-    → Covered (marks_from texts taken column cs) (column + offset)
-covered texts [] taken column offset b within stands =
-    let fits : (0 < length b.text) × (length b.text ≤ length (drop offset [])) = bracket_fits texts (drop offset []) b stands in
-    absurd (omega (arith, length-drop {A = ℕ} offset []))
-covered texts (c ∷ cs) zero column offset b within stands =
-    covered_here texts column c offset cs (bracket_at texts (c ∷ cs)) b refl stands (λ n o within stands. covered texts cs n (column + 1) o b within stands)
-covered texts (c ∷ cs) (suc taken) column zero b within stands = absurd (omega arith)
-covered texts (c ∷ cs) (suc taken) column (suc o) b within stands =
-    more_covered texts taken column o cs [] (covered texts cs taken (column + 1) o b (omega arith) stands)
+  covered : (left taken column : ℕ) → column + taken ≤ at → at < column + left
+      → Covered (marks_from found taken column left) at
+  covered zero taken column low high = absurd (omega arith)
+  covered (suc left) zero column low high =
+      covered_here column left (found column) refl (omega arith)
+      (λ n behind. covered left n (column + 1) behind (omega arith))
+  covered (suc left) (suc taken) column low high = covered left taken (column + 1) (omega arith) (omega arith)
 
 pub no_text_is_missed : NoTextIsMissed
-no_text_is_missed texts long line column b short listed stands =
-    let l : LongestOf _ texts b = some_longest texts line column b listed stands in
-    let r : Covered (marks_from texts 0 0 line) (0 + column) = covered texts line 0 0 column l.text (omega arith) l.is in
-    let from = r.from in
-    let to = r.to in
-    (r.place, r.mark, ap (λ marks. slice_get marks r.place) (marks_short texts long line short) ∙ r.there, omega arith, omega arith)
+no_text_is_missed texts long counts line column b short listed stands =
+    let l : LongestOf _ texts b = some_longest texts counts line column b listed stands in
+    let fits = bracket_fits texts counts line column l.text l.is in
+    let found = bracket_at texts counts line in
+    let within : column < 0 + length line = omega (arith, fits.0, fits.1, length-drop column line) in
+    let some = λ (n : ℕ) (a : BracketText) (e : found n ≡ Some a). (bracket_fits texts counts line n a e).0 in
+    let r : Covered (marks_from found 0 0 (length line)) column =
+    covered found column l.text l.is some (length line) 0 0 (omega arith) within in (
+      r.place,
+      r.mark,
+      ap (λ marks. slice_get marks r.place) (marks_short texts long counts line short) ∙ r.there,
+      r.from,
+      r.to,
+    )

@@ -19,7 +19,8 @@ pub stack_more : (n m : ℕ) (es : List Entry) → IsStack n es → n ≤ m → 
 stack_more n m [] stack more = tt
 stack_more n m (e ∷ es) stack more = (omega arith, stack.1)
 
-pub entry_below : (n : ℕ) (es : List Entry) (entry : Entry) (below : List Entry) → IsStack n es → IsEntry entry below es → entry.row < n
+pub entry_below : (n : ℕ) (es : List Entry) (entry : Entry) (below : List Entry) → IsStack n es
+    → IsEntry entry below es → entry.row < n
 entry_below n [] entry below stack is = absurd is
 entry_below n (e ∷ es) entry below stack is = elim is [
   | inl same ↦ let row : e.row ≡ entry.row = ap (λ x. x.row) same.0 in omega arith
@@ -33,22 +34,34 @@ pub record Last (kinds : Kinds) (n : ℕ) (es : List Entry) (entry : Entry) (bel
   pub stack : IsStack entry.row below
   pub deeper : (e : Entry) (under : List Entry) → IsEntry e under below → IsEntry e under es
 
-pub last_of : (kinds : Kinds) (n : ℕ) (es : List Entry) (entry : Entry) (below : List Entry) → IsStack n es → from_last kinds es ≡ entry ∷ below → Last kinds n es entry below
+pub last_of : (kinds : Kinds) (n : ℕ) (es : List Entry) (entry : Entry) (below : List Entry) → IsStack n es
+    → from_last kinds es ≡ entry ∷ below → Last kinds n es entry below
 last_of kinds n [] entry below stack is = absurd (cc)
 last_of kinds n (e ∷ es) entry below stack is = elim (cases_Bool (has_kind kinds e.kind)) [
   | inl here ↦
       let found : e ∷ es ≡ entry ∷ below = rw here at is in
       let first : e ≡ entry = cc in
       let rest : es ≡ below = cc in
-      record { is_entry = inl (first, rest); kind = rw (← first) here; stack = rw (← first, ← rest) stack.1; deeper = λ x under h. inr (rw rest h) }
+      record {
+        is_entry = inl (first, rest);
+        kind = rw (← first) here;
+        stack = rw (← first, ← rest) stack.1;
+        deeper = λ x under h. inr (rw rest h);
+      }
   | inr other ↦
       let l : Last kinds e.row es entry below = last_of kinds e.row es entry below stack.1 (rw other at is) in
-      record { is_entry = inr l.is_entry; kind = l.kind; stack = l.stack; deeper = λ x under h. inr (l.deeper x under h) }
+      record {
+        is_entry = inr l.is_entry;
+        kind = l.kind;
+        stack = l.stack;
+        deeper = λ x under h. inr (l.deeper x under h);
+      }
 ]
 
 -- ---- what a closer leaves open
 -- where there is no last entry of some kinds, there is none
-pub none_of_kinds : (kinds : Kinds) (es : List Entry) (e : Entry) (under : List Entry) → from_last kinds es ≡ [] → IsEntry e under es → has_kind kinds e.kind ≡ true → ⊥
+pub none_of_kinds : (kinds : Kinds) (es : List Entry) (e : Entry) (under : List Entry) → from_last kinds es ≡ []
+    → IsEntry e under es → has_kind kinds e.kind ≡ true → ⊥
 none_of_kinds kinds [] e under is among kind = among
 none_of_kinds kinds (x ∷ es) e under is among kind = elim (cases_Bool (has_kind kinds x.kind)) [
   | inl here ↦ let some : x ∷ es ≡ [] = rw here at is in cc
@@ -59,7 +72,8 @@ none_of_kinds kinds (x ∷ es) e under is among kind = elim (cases_Bool (has_kin
 ]
 
 -- each entry is left open, or is not below the last of the kinds
-pub split_at_last : (kinds : Kinds) (n : ℕ) (es : List Entry) (entry : Entry) (below : List Entry) (e : Entry) (under : List Entry) → IsStack n es → from_last kinds es ≡ entry ∷ below → IsEntry e under es
+pub split_at_last : (kinds : Kinds) (n : ℕ) (es : List Entry) (entry : Entry) (below : List Entry) (e : Entry)
+    (under : List Entry) → IsStack n es → from_last kinds es ≡ entry ∷ below → IsEntry e under es
     → IsEntry e under below ⊎ (entry.row ≤ e.row)
 split_at_last kinds n [] entry below e under stack is among = absurd among
 split_at_last kinds n (x ∷ es) entry below e under stack is among = elim (cases_Bool (has_kind kinds x.kind)) [
@@ -81,7 +95,8 @@ split_at_last kinds n (x ∷ es) entry below e under stack is among = elim (case
 ]
 
 -- an entry of the kinds is the last of them, or below it
-pub last_of_kinds : (kinds : Kinds) (n : ℕ) (es : List Entry) (entry : Entry) (below : List Entry) (e : Entry) (under : List Entry) → IsStack n es → from_last kinds es ≡ entry ∷ below → IsEntry e under es
+pub last_of_kinds : (kinds : Kinds) (n : ℕ) (es : List Entry) (entry : Entry) (below : List Entry) (e : Entry)
+    (under : List Entry) → IsStack n es → from_last kinds es ≡ entry ∷ below → IsEntry e under es
     → has_kind kinds e.kind ≡ true → e.row ≤ entry.row
 last_of_kinds kinds n [] entry below e under stack is among kind = absurd among
 last_of_kinds kinds n (x ∷ es) entry below e under stack is among kind = elim (cases_Bool (has_kind kinds x.kind)) [

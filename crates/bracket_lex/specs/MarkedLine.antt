@@ -4,7 +4,7 @@ use Rattle.text_pos.specs.declared.length.Pos.{Pos}
 use Rattle.pairing_defs.specs.declared.BracketText.{BracketText}
 use Rattle.pairing_defs.specs.declared.LineMark.{LineMark}
 use Rattle.pairing_defs.specs.declared.Mark.{Mark}
-use Rattle.pairing_defs.specs.Marks.{marks_of, marks_of_lines}
+use Rattle.pairing_defs.specs.Marks.{every_column, marks_of, marks_of_lines}
 
 pub record MarkedLine : Type 0 where
   pub marks : List LineMark
@@ -24,6 +24,6 @@ text_end lines = record { line = length lines - 1; col = last_length lines }
 abbrev pub marks_in : List MarkedLine → List Mark
 marks_in lines = marks_of_lines 0 (map (λ line. line.marks) lines)
 
--- a line with the marks that these texts give it
+-- a line with the marks that these texts give it, where every column counts
 abbrev pub marked_line : List BracketText → ℕ → List ℕ → MarkedLine
-marked_line texts long line = record { marks = marks_of texts long line; length = length line }
+marked_line texts long line = record { marks = marks_of texts long every_column line; length = length line }

@@ -7,6 +7,7 @@ use Rattle.pairing_defs.specs.declared.Role.{Role}
 use Rattle.pairing_defs.specs.declared.Role.TheVariants.{Opener, Closer}
 use Rattle.pairing_defs.specs.declared.Mark.{Mark}
 use Rattle.pairing_defs.specs.declared.Row.{Row}
+use Rattle.pairing_defs.specs.declared.TheConstants.{COLOURS}
 use Rattle.pairing_defs.specs.Pairing.{paired}
 
 -- row i is there, and its partner is row j
@@ -44,14 +45,14 @@ abbrev pub PartnersAreAlike : Type 0
 PartnersAreAlike = (limit : ℕ) (end : Pos) (marks : List Mark) (i j : ℕ) (row other : Row) → ArePartners (paired limit end marks) i j row other
     → (row.level ≡ other.level) × (row.own ≡ other.own) × (row.colour ≡ other.colour)
 
--- their colour goes by their level: 0 to 5 in turn
+-- their colour goes by their level, each in turn
 abbrev pub ColoursGoByLevel : Type 0
-ColoursGoByLevel = (limit : ℕ) (end : Pos) (marks : List Mark) (i j : ℕ) (row : Row) → HasPartner (paired limit end marks) i row j → row.colour ≡ row.level % 6
+ColoursGoByLevel = (limit : ℕ) (end : Pos) (marks : List Mark) (i j : ℕ) (row : Row) → HasPartner (paired limit end marks) i row j → row.colour ≡ row.level % COLOURS
 
--- a row without partner has colour 6
-abbrev pub TheUnpairedHaveColourSix : Type 0
-TheUnpairedHaveColourSix = (limit : ℕ) (end : Pos) (marks : List Mark) (i : ℕ) (row : Row) → slice_get (paired limit end marks) i ≡ Some row
-    → row.partner ≡ None → row.colour ≡ 6
+-- a row without partner has the colour behind these
+abbrev pub TheUnpairedHaveTheColourBehind : Type 0
+TheUnpairedHaveTheColourBehind = (limit : ℕ) (end : Pos) (marks : List Mark) (i : ℕ) (row : Row) → slice_get (paired limit end marks) i ≡ Some row
+    → row.partner ≡ None → row.colour ≡ COLOURS
 
 -- pairs never cross: one that begins inside another ends inside it
 abbrev pub PairsNeverCross : Type 0

@@ -1,8 +1,8 @@
-ghost use Rattle.std.specs.Prelude.{◌≡◌, ◌<◌, ◌≤◌, ◌+◌, ◌^◌, ◌∷◌, ◌++◌, [], Some, length, drop, IfOk, IfSome, OnOk};
+ghost use Rattle.std.specs.Prelude.{◌≡◌, ◌<◌, ◌≤◌, ◌+◌, ◌-◌, ◌^◌, ◌∷◌, ◌++◌, [], Some, length, IfOk, IfSome, OnOk};
 ghost use Rattle.std.specs.Option.{option_copied};
 ghost use Rattle.text_pos.specs.KindSet.{only};
 ghost use Rattle.pairing_defs.specs.declared.BracketText.{BracketText};
-ghost use Rattle.pairing_defs.specs.Marks.{usual_texts, stands_at, bracket_at, marks_from, marks_of};
+ghost use Rattle.pairing_defs.specs.Marks.{usual_texts, every_column, stands_at, bracket_at, marks_from, marks_of};
 ghost use Rattle.bracket_lex.specs.Longest.{or_longer};
 
 use crate::line_marks::LineMarks;
@@ -50,12 +50,13 @@ fn add_pair(
     Ok(())
 }
 
-/// Whether a text stands at the front of what is left of a line.
-fn stands(b: &BracketText, rest: &[char]) -> bool
-    ensures { result ≡ stands_at rest.now b.now }
+/// Whether a text stands at a column of a line.
+fn stands(b: &BracketText, line: &[char], column: usize) -> bool
+    requires { column ≤ length line.now }
+    ensures { result ≡ stands_at every_column line.now column b.now }
 {
     let text = b.text.as_slice();
-    !text.is_empty() && rest.starts_with(text)
+    !text.is_empty() && line[column..].starts_with(text)
 }
 
 /// The longer of two texts, and the first of two that are equally long.
@@ -80,14 +81,14 @@ impl Brackets {
         Ok(Brackets { texts })
     }
 
-    /// The longest of the texts that stand at the front of what is left of a line, and the first of those
-    /// that are equally long.
-    fn at_front(&self, rest: &[char]) -> Option<&BracketText>
-        ensures { option_copied result ≡ bracket_at self.now rest.now }
+    /// The longest of the texts that stand at a column of a line, and the first of those that are equally long.
+    fn at_column(&self, line: &[char], column: usize) -> Option<&BracketText>
+        requires { column ≤ length line.now }
+        ensures { option_copied result ≡ bracket_at self.now every_column line.now column }
     {
         let mut longest: Option<&BracketText> = None;
         for b in &self.texts {
-            if stands(b, rest) {
+            if stands(b, line, column) {
                 longest = longer(longest, b);
             }
         }
@@ -104,10 +105,11 @@ impl Brackets {
         requires inside { column < length line.now }
         requires short { length line.now < 2 ^ 32 }
         ensures bound { IfOk result (λ next. (column < next) × (next ≤ length line.now)) }
-        ensures marks { IfOk result (λ next. marks.new.items ++ marks_from self.now 0 next (drop next line.now)
-            ≡ marks.old.items ++ marks_from self.now 0 column (drop column line.now)) }
+        ensures marks { IfOk result (λ next. let found = bracket_at self.now every_column line.now in
+            marks.new.items ++ marks_from found 0 next (length line.now - next)
+            ≡ marks.old.items ++ marks_from found 0 column (length line.now - column)) }
     {
-        match self.at_front(&line[column..]) {
+        match self.at_column(line, column) {
             None => Ok(column + 1),
             Some(b) => {
                 let end = column + b.text.as_slice().len();
@@ -125,7 +127,7 @@ impl Brackets {
     /// the mark, is this project's own.
     pub fn marks(&self, alloc: Global, line: &Line, long: u32) -> Result<LineMarks, AllocError>
         requires { length line.now < 2 ^ 32 }
-        ensures marks { IfOk result (λ found. found.marks ≡ marks_of self.now long line.now) }
+        ensures marks { IfOk result (λ found. found.marks ≡ marks_of self.now long every_column line.now) }
         ensures length { IfOk result (λ found. found.length ≡ length line.now) }
     {
         self.marks_in(alloc, line.chars(), long)
@@ -133,7 +135,7 @@ impl Brackets {
 
     fn marks_in(&self, alloc: Global, line: &[char], long: u32) -> Result<LineMarks, AllocError>
         requires { length line.now < 2 ^ 32 }
-        ensures marks { IfOk result (λ found. found.marks ≡ marks_of self.now long line.now) }
+        ensures marks { IfOk result (λ found. found.marks ≡ marks_of self.now long every_column line.now) }
         ensures length { IfOk result (λ found. found.length ≡ length line.now) }
     {
         let length = line.len() as u32;

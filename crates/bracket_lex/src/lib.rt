@@ -21,6 +21,3 @@ pub use pairing_laws::{
     closers_take_the_last_opener, insides_end_where_closed_off, levels_count_open_rows,
     openers_at_the_limit_have_no_rows, pairs_are_nested, partners_belong_together, rows_are_marks,
 };
-
-#[cfg(test)]
-mod tests;

@@ -3,7 +3,7 @@ ghost use Rattle.pairing_defs.specs.Marks.{on_line};
 ghost use Rattle.pairing_defs.specs.Pairing.{Entry, Placed, of_kind, from_last, opener_row, after_opener, closer_row, left_open, rows_by, open_by, placed_from, open_after};
 ghost use Rattle.bracket_lex.specs.Pairing.{Progress, open_in, placed_of};
 
-use pairing_defs::{LineMark, Mark, Role, Row};
+use pairing_defs::{COLOURS, LineMark, Mark, Role, Row};
 use std::alloc::{AllocError, Global};
 use std::marker::Model;
 use text_pos::{Kinds, Pos};
@@ -76,7 +76,7 @@ fn unfinished(mark: Mark, level: u32, own: u32, partner: Option<u32>) -> Row
         mark,
         level,
         own,
-        colour: 6,
+        colour: COLOURS,
         partner,
         inner: mark.at,
     }

@@ -18,9 +18,14 @@ pub struct Paired {
 }
 
 impl Model for Paired {
+    ghost use Rattle.std.specs.Prelude.{List, ◌<◌, ◌^◌, length};
+    ghost use Rattle.pairing_defs.specs.declared.Row.{Row};
+
     ghost Value = { List Row };
 
     ghost view = { λ p. p.rows.items };
+
+    ghost invariant = { λ p. length p.rows.items < 2 ^ 32 };
 }
 
 impl Paired {
@@ -31,8 +36,10 @@ impl Paired {
         ensures { IfOk result (λ p. p ≡ paired limit end (marks_in lines.now)) }
     {
         let mut open_marks = OpenMarks::new(alloc, limit);
-        for (n, line) in lines.as_slice().iter().enumerate() {
-            open_marks.take_line(n as u32, line.marks())?;
+        let mut n = 0;
+        for line in lines.iter() {
+            open_marks.take_line(n, line.get().marks())?;
+            n += 1;
         }
         let mut rows = open_marks.into_rows();
         finish(alloc, &mut rows, end)?;
@@ -41,7 +48,8 @@ impl Paired {
 
     /// The rows, in order of the text.
     pub fn rows(&self) -> &[Row]
-        ensures { result.now ≡ self.now }
+        ensures rows { result.now ≡ self.now }
+        ensures few { length result.now < 2 ^ 32 }
     {
         &self.rows
     }

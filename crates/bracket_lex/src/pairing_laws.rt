@@ -1,7 +1,7 @@
 ghost use Rattle.bracket_lex.specs.RowLaws.{RowsAreMarksInOrder, ClosersHaveRows, MarksWithinTheLimitHaveRows};
 ghost use Rattle.bracket_lex.specs.LevelLaws.{OpenersCountTheOpen, LoneClosersCountTheOpen, OneMoreCloserHasARow, OneMoreOpenerHasARowBelowTheLimit};
 ghost use Rattle.bracket_lex.specs.InsideLaws.{InsidesEndAtTheFirstCloser, OpenInsidesEndWithTheText, ClosersHaveNoInside};
-ghost use Rattle.bracket_lex.specs.PairLaws.{PartnersAreMutual, OpenersComeFirst, PartnersAreAlike, ColoursGoByLevel, TheUnpairedHaveColourSix, PairsNeverCross, OpenersAreBelowTheLimit, PartnersAreBelowTheLimit, ClosersTakeTheLastOpener};
+ghost use Rattle.bracket_lex.specs.PairLaws.{PartnersAreMutual, OpenersComeFirst, PartnersAreAlike, ColoursGoByLevel, TheUnpairedHaveTheColourBehind, PairsNeverCross, OpenersAreBelowTheLimit, PartnersAreBelowTheLimit, ClosersTakeTheLastOpener};
 
 /// Rows are marks, in order. Each closer has a row, and each opener where there are no more of them than the limit.
 pub fn rows_are_marks()
@@ -16,7 +16,7 @@ pub fn partners_belong_together()
     ensures in_order { OpenersComeFirst }
     ensures alike { PartnersAreAlike }
     ensures colour { ColoursGoByLevel }
-    ensures unpaired { TheUnpairedHaveColourSix }
+    ensures unpaired { TheUnpairedHaveTheColourBehind }
 {}
 
 /// Pairs never cross, and are nested less deep than the limit says.

@@ -1,8 +1,8 @@
 ghost use Rattle.std.specs.Prelude.{◌≡◌, ◌<◌, ◌≤◌, ◌^◌, List, ℕ, Option, length, map, reverse, OnOk};
-ghost use Rattle.pairing_defs.specs.Pairing.{Removal, removal_by, row_of, rows_from};
+ghost use Rattle.pairing_defs.specs.Pairing.{Removal, removal_by, colour_of, row_of, rows_from};
 ghost use Rattle.bracket_lex.specs.Pairing.{placed_of, first_for};
 
-use pairing_defs::{Role, Row};
+use pairing_defs::{COLOURS, Role, Row};
 use std::alloc::{AllocError, Global};
 use std::marker::Model;
 use text_pos::Pos;
@@ -41,6 +41,17 @@ fn closer_for(closers: &mut Vec<Closer>, n: u32) -> Option<Closer>
     None
 }
 
+/// The colour of a row.
+fn colour_of(level: u32, partner: Option<u32>) -> u32
+    ensures { result ≡ colour_of level partner }
+{
+    if partner.is_some() {
+        level % COLOURS
+    } else {
+        COLOURS
+    }
+}
+
 /// Row n with its colour, its partner and its inner end, given the closer by which it is no longer open.
 fn finished(row: &Row, n: u32, removal: Option<Closer>, end: Pos) -> Row
     ensures { result ≡ row_of end n (placed_of row.now) row.now.mark.role removal }
@@ -57,7 +68,7 @@ fn finished(row: &Row, n: u32, removal: Option<Closer>, end: Pos) -> Row
         mark: row.mark,
         level: row.level,
         own: row.own,
-        colour: if partner.is_some() { row.level % 6 } else { 6 },
+        colour: colour_of(row.level, partner),
         partner,
         inner,
     }

@@ -8,6 +8,7 @@ use crate::brackets::Brackets;
 use crate::mark_lines::MarkLines;
 use line_text::Text;
 use std::alloc::{AllocError, Global};
+use text_defs::MOST_CHARS;
 
 impl MarkLines {
     /// The lines of a text, each with its marks and its length. A line of `long` or more characters has no marks.
@@ -23,7 +24,7 @@ impl MarkLines {
         ensures some { IfOk result (λ lines. 0 < length lines) }
         ensures end { IfOk result (λ lines. text_end lines ≡ place_of text.now (length text.now)) }
     {
-        prove!(text.chars() <= 4_194_304);
+        prove!(u64::from(text.chars()) <= MOST_CHARS);
         let mut lines = MarkLines::new(alloc);
         for n in 0..text.lines() {
             lines.push(brackets.marks(alloc, text.line(n), long)?)?;

@@ -1,6 +1,6 @@
 -- How a run ends: what each status says of the counts of faults, of what was taken and of what was written.
 use Rattle.std.specs.Prelude.{◌≡◌, ℕ, ◌<◌, ◌≤◌, List, [], ◌++◌, length, Option, Some, IfSome, option_map}
-use Rattle.answer_defs.specs.Answers.{Settings}
+use Rattle.document_defs.specs.TextRows.{Settings}
 use Rattle.text_defs.specs.Text.{whole_lines}
 use Rattle.piece_io.specs.Told.{appended, risen}
 use Rattle.session_defs.specs.Output.{written_for, script_lines, most_script_bytes}

@@ -3,7 +3,7 @@ use Rattle.std.specs.Prelude.{List, [], ◌∷◌, Bool, true, false}
 use Rattle.piece_io.specs.declared.line_cutter.Cut.{Cut}
 use Rattle.piece_io.specs.declared.line_cutter.Cut.TheVariants.{Line, TooLong}
 use Rattle.piece_io.specs.Cuts.{Cutting}
-use Rattle.answer_defs.specs.declared.refusal.Refusal.TheVariants as refusal
+use Rattle.script_words.specs.declared.refusal.Refusal.TheVariants as refusal
 use Rattle.script_words.specs.Script.{Reading, refused, meaning_of}
 
 -- what a line means that was cut off the script

@@ -2,7 +2,7 @@
 use Rattle.std.specs.Prelude.{◌≡◌, ◌⊎◌, ℕ, ◌-◌, ◌^◌, ◌<◌, ◌≤◌, List, [], ◌++◌, true, false, Option, Some, None}
 use Rattle.text_defs.specs.Text.{text_of}
 use Rattle.piece_io.specs.Told.{Told, Untold, Missing, Holds, appended, risen}
-use Rattle.answer_defs.specs.Answers.{usual}
+use Rattle.document_defs.specs.TextRows.{usual}
 use Rattle.session_defs.specs.Output.{is_accepted, output_of, written_so_far}
 use Rattle.session_defs.specs.Words.{Request}
 use Rattle.bracket_program.specs.Ends.{Outside, IsDone, IsEnd, WritesFront}

@@ -3,7 +3,7 @@ use Rattle.std.specs.Prelude.{◌≡◌, ℕ, List, length, map, false}
 use Rattle.text_defs.specs.Text.{whole_lines, unfinished}
 use Rattle.piece_io.specs.Told.{appended}
 use Rattle.piece_io.specs.Cuts.{Cutting, cuts_of}
-use Rattle.answer_defs.specs.Answers.{Settings}
+use Rattle.document_defs.specs.TextRows.{Settings}
 use Rattle.script_words.specs.Script.{reading_of}
 use Rattle.session_defs.specs.Session.{text_behind}
 use Rattle.session_defs.specs.Output.{written_for}

@@ -1,6 +1,6 @@
 ghost use Rattle.std.specs.Prelude.{◌≡◌, ℕ, List, true, IfOk, IfErr, OnOk};
 ghost use Rattle.text_defs.specs.Text.{is_text, text_of};
-ghost use Rattle.answer_defs.specs.Answers.{usual};
+ghost use Rattle.document_defs.specs.TextRows.{usual};
 ghost use Rattle.bracket_program.specs.Run.{IsFileEnd, Opens, SameCounts};
 ghost use Rattle.bracket_program.specs.Texts.{IsTextEnd, ReadsText};
 
@@ -10,10 +10,8 @@ use document::Document;
 use line_text::{Text, TextRefusal};
 use piece_io::{FileEnd, Files, read_file};
 use std::alloc::Global;
+use text_defs::MOST_FILE_BYTES;
 use text_pos::{Bytes, Limits};
-
-/// The largest file.
-const MOST_FILE_BYTES: u64 = 16_777_216;
 
 /// Opens the text of a file, with the built-in pairs.
 pub fn open_document<F: Files>(

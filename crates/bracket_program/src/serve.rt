@@ -9,10 +9,8 @@ use document::Document;
 use piece_io::whole::PIECE;
 use piece_io::{Failed, LineCutter, Sink, Source};
 use script_words::Reply;
+use session_defs::MOST_SCRIPT_BYTES;
 use std::alloc::{AllocError, Global};
-
-/// As many bytes of script as are taken at most.
-const MOST_SCRIPT_BYTES: u64 = 4_294_967_296;
 
 /// Answers the whole script: the open reply, and then each line as it comes.
 pub fn serve<S: Source, K: Sink>(

@@ -1,13 +1,8 @@
 ghost use Rattle.std.specs.Prelude.{◌≡◌, ℕ, ◌<◌, map, string_bytes, option_map, Some, None, if◌then◌else◌};
 ghost use Rattle.session_defs.specs.Words.{request_of, limits_with, is_plain, is_nesting, is_digit, is_number, value_of, request_for};
 
+use session_defs::{MOST_DIGITS, MOST_NESTING, USUAL_BUDGET, USUAL_LONG, USUAL_NESTING, USUAL_TAB};
 use text_pos::Limits;
-
-/// How many brackets may be open at once, where no word says otherwise.
-const USUAL_NESTING: u32 = 200;
-
-/// The most that `--nesting` may ask for.
-const MOST_NESTING: u64 = 300;
 
 /// The text file's name and the limits that the words ask for. None where they are no command line.
 pub fn read_words(words: &[String]) -> Option<(&str, Limits)>
@@ -48,9 +43,9 @@ fn limits_with(nesting: u32) -> Limits
 {
     Limits {
         nesting,
-        budget: 100_000,
-        long: 20_000,
-        tab: 4,
+        budget: USUAL_BUDGET,
+        long: USUAL_LONG,
+        tab: USUAL_TAB,
     }
 }
 
@@ -59,7 +54,7 @@ fn nesting_in(word: &str) -> Option<u32>
     ensures { result ≡ (if is_nesting word.now then Some (value_of word.now) else None) }
 {
     let value = number_in(word.as_bytes())?;
-    if 1 <= value && value <= MOST_NESTING {
+    if 1 <= value && value <= u64::from(MOST_NESTING) {
         Some(value as u32)
     } else {
         None
@@ -70,7 +65,7 @@ fn nesting_in(word: &str) -> Option<u32>
 fn number_in(word: &[u8]) -> Option<u64>
     ensures { result ≡ (if is_number word.now then Some (value_of word.now) else None) }
 {
-    if word.is_empty() || word.len() > 10 {
+    if word.is_empty() || word.len() > MOST_DIGITS {
         return None;
     }
     let mut value: u64 = 0;

@@ -1,1 +1,2 @@
+pub mod AskRefusals
 pub mod State

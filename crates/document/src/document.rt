@@ -1,11 +1,13 @@
-ghost use Rattle.std.specs.Prelude.{◌≡◌, ℕ, None, Some, Err, IfOk, IfErr, OnOk, OnErr, IsTrue};
+ghost use Rattle.std.specs.Prelude.{◌≡◌, None, Some, IfOk, IfErr, OnOk, OnErr};
 ghost use Rattle.text_defs.specs.Text.{line_count};
 ghost use Rattle.text_defs.specs.Batch.{batch_refusal, edited};
 ghost use Rattle.line_text.specs.BatchRefusals.{HasCause};
-ghost use Rattle.answer_defs.specs.Answers.{answer_of, question_refusal, rows_of, settings_of};
-ghost use Rattle.answer_defs.specs.declared.refusal.Refusal.TheVariants as refusal;
+ghost use Rattle.answer_defs.specs.Answers.{is_range, question_refusal};
+ghost use Rattle.document_defs.specs.TextRows.{rows_of, settings_of};
+ghost use Rattle.document_defs.specs.DocumentAnswers.{answer_of};
+ghost use Rattle.document.specs.AskRefusals.{HasAskCause};
 
-use answer_defs::{Answer, Question};
+use answer_defs::{Answer, MOST_LINES_OF_A_QUESTION, Question, QuestionRefusal};
 use bracket_lex::{Brackets, MarkLines, Paired};
 use line_text::{Edit, EditRefusal, Edited, Text};
 use pair_queries::brackets;
@@ -73,16 +75,14 @@ impl Document {
     pub fn ask(&mut self, alloc: Global, question: &Question) -> Result<Answer, AskRefusal>
         ensures answer { IfOk result (λ a. a ≡ answer_of self.old.settings self.old.text question.now) }
         ensures answered { OnOk result (question_refusal self.old.text question.now ≡ None) }
-        ensures line { (lines : ℕ) → result ≡ Err (AskRefusal.Line lines)
-            → (question_refusal self.old.text question.now ≡ Some refusal.Line) × (lines ≡ line_count self.old.text) }
-        ensures same { self.new ≡ self.old }
+        ensures refused { IfErr result (HasAskCause (question_refusal self.old.text question.now)) }
+        ensures text { self.new.text ≡ self.old.text }
+        ensures settings { self.new.settings ≡ self.old.settings }
     {
-        if !self.can_answer(question) {
-            return Err(AskRefusal::Line {
-                lines: u64::from(self.text.lines()),
-            });
+        match self.refusal_of(question) {
+            Some(QuestionRefusal::Line { lines }) => Err(AskRefusal::Line { lines }),
+            None => self.answer(alloc, question).map_err(AskRefusal::Memory),
         }
-        self.answer(alloc, question).map_err(AskRefusal::Memory)
     }
 
     /// The text as edited so far.
@@ -94,17 +94,21 @@ impl Document {
 }
 
 impl Document {
-    /// Whether the lines of a question are there.
-    fn can_answer(&self, question: &Question) -> bool
-        ensures yes { IsTrue result → question_refusal self.now.text question.now ≡ None }
-        ensures no { ¬ (IsTrue result) → question_refusal self.now.text question.now ≡ Some refusal.Line }
+    /// Why a question has no answer, if it has none.
+    fn refusal_of(&self, question: &Question) -> Option<QuestionRefusal>
+        ensures { result ≡ question_refusal self.now.text question.now }
     {
         let lines = self.text.lines();
-        match *question {
-            Question::Brackets { from, to } => from <= to
-                && to < lines
-                && to - from < MOST_LINES_OF_A_QUESTION,
+        let is_there = match *question {
+            Question::Brackets { from, to } => is_range(lines, from, to),
             Question::Line { line } => line < lines,
+        };
+        if is_there {
+            None
+        } else {
+            Some(QuestionRefusal::Line {
+                lines: u64::from(lines),
+            })
         }
     }
 
@@ -115,7 +119,7 @@ impl Document {
         match *question {
             Question::Brackets { from, to } => {
                 let rows = pair_text(alloc, &self.text, &self.brackets, self.limits)?;
-                Ok(Answer::Brackets(brackets(alloc, &rows, from, to)?))
+                Ok(Answer::Brackets(brackets(alloc, rows.rows(), from, to)?))
             }
             Question::Line { line } => {
                 let chars = self.text.line(line).chars();
@@ -125,8 +129,12 @@ impl Document {
     }
 }
 
-/// A question asks for at most so many lines.
-const MOST_LINES_OF_A_QUESTION: u32 = 4096;
+/// Whether these lines, of so many, may be asked for.
+fn is_range(lines: u32, from: u32, to: u32) -> bool
+    ensures { result ≡ is_range lines from to }
+{
+    from <= to && to < lines && to - from < MOST_LINES_OF_A_QUESTION
+}
 
 /// The rows of a whole text.
 fn pair_text(

@@ -4,6 +4,7 @@ pub mod FileTexts
 pub mod JoinedLines
 pub mod LeadingRuns
 pub mod NormedText
+pub mod OpenLines
 pub mod Outcomes
 pub mod Places
 pub mod PlacesOfOffsets

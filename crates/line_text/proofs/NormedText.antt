@@ -19,12 +19,18 @@ normed-nil AfterCr = refl
 normed-nil Other = refl
 
 -- at the end nothing is left to add
-pub normed_end : (before : Before) (bs front whole : List ℕ) → length bs ≡ 0 → front ++ normed before (chars bs) ≡ whole → front ≡ whole
+pub normed_end : (before : Before) (bs front whole : List ℕ) → length bs ≡ 0 → front ++ normed before (chars bs)
+    ≡ whole → front ≡ whole
 normed_end before bs front whole e h =
-    sym (append-nil front) ∙ ap (λ (cs : List ℕ). front ++ cs) (sym (ap (λ (b : List ℕ). normed before (chars b)) (nil_from_length bs e) ∙ ap (normed before) chars-nil ∙ normed-nil before)) ∙ h
+    sym (append-nil front) ∙ ap (λ (cs : List ℕ). front ++ cs)
+    (sym (ap (λ (b : List ℕ). normed before (chars b)) (nil_from_length bs e) ∙ ap (normed before) chars-nil
+    ∙ normed-nil before)) ∙ h
 
 -- one character c, behind which `rest` is left
-pub normed_step : (old new : Before) (bs rest : List ℕ) (c : ℕ) (got : Option ℕ) (front whole : List ℕ) → IsUtf8 bs → bs ≡ encode_utf8 c ++ rest → Takes old c got new → front ++ normed old (chars bs) ≡ whole → (front ++ option_to_list got) ++ normed new (chars rest) ≡ whole
+pub normed_step : (old new : Before) (bs rest : List ℕ) (c : ℕ) (got : Option ℕ) (front whole : List ℕ) → IsUtf8 bs
+    → bs ≡ encode_utf8 c ++ rest → Takes old c got new → front ++ normed old (chars bs) ≡ whole
+    → (front ++ option_to_list got) ++ normed new (chars rest) ≡ whole
 normed_step old new bs rest c got front whole u e takes h =
     append_assoc front (option_to_list got) (normed new (chars rest))
-    ∙ ap (λ (cs : List ℕ). front ++ cs) (sym (takes.adds (chars rest)) ∙ ap (normed old) (sym (chars_past_char bs rest c u e))) ∙ h
+    ∙ ap (λ (cs : List ℕ). front ++ cs) (sym (takes.adds (chars rest))
+    ∙ ap (normed old) (sym (chars_past_char bs rest c u e))) ∙ h

@@ -1,13 +1,13 @@
 -- Lines that are kept hold neither LF nor CR, and parts of them don't.
 use Rattle.std.proofs.Common.{◌≢◌, ℕ, zero, suc, List, [], ◌∷◌, ◌++◌, All, take, drop, Bool, true, false, cond, arith}
 use Rattle.text_defs.specs.Text.{line_in}
-use Rattle.line_text.specs.Lines.{IsLine, AreLines, IsPlain, ArePlain}
+use Rattle.line_text.specs.Lines.{HasNoLf, HaveNoLf, IsPlain, ArePlain}
 
-pub IsPlain-line : (line : List ℕ) → IsPlain line → IsLine line
+pub IsPlain-line : (line : List ℕ) → IsPlain line → HasNoLf line
 IsPlain-line [] h = tt
 IsPlain-line (c ∷ cs) h = (h.0, IsPlain-line cs h.2)
 
-pub ArePlain-lines : (lines : List (List ℕ)) → ArePlain lines → AreLines lines
+pub ArePlain-lines : (lines : List (List ℕ)) → ArePlain lines → HaveNoLf lines
 ArePlain-lines [] h = tt
 ArePlain-lines (line ∷ lines) h = (IsPlain-line line h.0, ArePlain-lines lines h.1)
 
@@ -26,7 +26,8 @@ line_in-IsPlain [] n h = tt
 line_in-IsPlain (line ∷ lines) zero h = h.0
 line_in-IsPlain (line ∷ lines) (suc n) h = line_in-IsPlain lines n h.1
 
-pub ArePlain-push : (lines : List (List ℕ)) (line : List ℕ) → ArePlain lines → IsPlain line → ArePlain (lines ++ line ∷ [])
+pub ArePlain-push : (lines : List (List ℕ)) (line : List ℕ) → ArePlain lines → IsPlain line
+    → ArePlain (lines ++ line ∷ [])
 ArePlain-push [] line h i = (i, tt)
 ArePlain-push (first ∷ lines) line h i = (h.0, ArePlain-push lines line h.1 i)
 
@@ -48,3 +49,17 @@ IsPlain-take (suc n) (c ∷ cs) h = (h.0, h.1, IsPlain-take n cs h.2)
 pub IsPlain-cond : (b : Bool) (xs ys : List ℕ) → IsPlain xs → IsPlain ys → IsPlain (cond b (xs ++ ys) xs)
 IsPlain-cond true xs ys h i = IsPlain-append xs ys h i
 IsPlain-cond false xs ys h i = h
+
+pub ArePlain-append : (xs ys : List (List ℕ)) → ArePlain xs → ArePlain ys → ArePlain (xs ++ ys)
+ArePlain-append [] ys h i = i
+ArePlain-append (line ∷ xs) ys h i = (h.0, ArePlain-append xs ys h.1 i)
+
+pub ArePlain-drop : (n : ℕ) (lines : List (List ℕ)) → ArePlain lines → ArePlain (drop n lines)
+ArePlain-drop zero lines h = h
+ArePlain-drop (suc n) [] h = tt
+ArePlain-drop (suc n) (line ∷ lines) h = ArePlain-drop n lines h.1
+
+pub ArePlain-take : (n : ℕ) (lines : List (List ℕ)) → ArePlain lines → ArePlain (take n lines)
+ArePlain-take zero lines h = tt
+ArePlain-take (suc n) [] h = tt
+ArePlain-take (suc n) (line ∷ lines) h = (h.0, ArePlain-take n lines h.1)

@@ -22,14 +22,14 @@ abbrev pub chars_of : Option (List ℕ) → List ℕ
 chars_of None = []
 chars_of (Some line) = line
 
--- a line holds no LF
-abbrev pub IsLine : List ℕ → Type 0
-IsLine [] = Unit {0}
-IsLine (c ∷ cs) = (c ≢ 10) × IsLine cs
+-- no LF is among these characters
+abbrev pub HasNoLf : List ℕ → Type 0
+HasNoLf [] = Unit {0}
+HasNoLf (c ∷ cs) = (c ≢ 10) × HasNoLf cs
 
-abbrev pub AreLines : List (List ℕ) → Type 0
-AreLines [] = Unit {0}
-AreLines (line ∷ lines) = IsLine line × AreLines lines
+abbrev pub HaveNoLf : List (List ℕ) → Type 0
+HaveNoLf [] = Unit {0}
+HaveNoLf (line ∷ lines) = HasNoLf line × HaveNoLf lines
 
 -- a line that is kept holds neither LF nor CR
 abbrev pub IsPlain : List ℕ → Type 0

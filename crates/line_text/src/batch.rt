@@ -11,10 +11,10 @@ use crate::before::Before;
 use crate::carry::Carry;
 use crate::draft::Draft;
 use crate::edit::{Edit, EditRefusal};
-use crate::read::{MOST_CHARS, MOST_LINES};
 use crate::size::{Size, size_of};
 use crate::text::Text;
 use std::alloc::{AllocError, Global};
+use text_defs::{MOST_CHARS, MOST_LINES};
 use text_pos::{Pos, Span};
 
 /// A text after a batch, and the lines that the batch carries.
@@ -109,14 +109,16 @@ impl Text {
         ensures { OnOk result (draft.new ≡ draft.old
             ++ take (offset_of self.now to - offset_of self.now from) (drop (offset_of self.now from) self.now)) }
     {
-        let mut col = from.col as usize;
-        for n in from.line..to.line {
-            let line = self.shared_line(n);
-            draft.put_part(line, col, line.chars().len())?;
-            draft.put('\n')?;
-            col = 0;
+        let first = self.shared_line(from.line);
+        let col = from.col as usize;
+        if from.line == to.line {
+            return draft.put_part(first, col, to.col as usize);
         }
-        draft.put_part(self.shared_line(to.line), col, to.col as usize)
+        draft.put_part(first, col, first.get().chars().len())?;
+        draft.put('\n')?;
+        let next = from.line + 1;
+        draft.put_lines(self.kept_lines(), next as usize, (to.line - next) as usize)?;
+        draft.put_part(self.shared_line(to.line), 0, to.col as usize)
     }
 
     /// The place behind the last character.

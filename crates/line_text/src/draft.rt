@@ -1,42 +1,38 @@
-ghost use Rattle.std.specs.Prelude.{◌≡◌, ◌≢◌, ◌-◌, ◌≤◌, ℕ, List, [], ◌∷◌, ◌++◌, length, take, drop, OnOk, IfOk};
-ghost use Rattle.std.specs.Option.{option_map};
-ghost use Rattle.std.specs.Rc.{rc_value};
+ghost use Rattle.std.specs.Prelude.{◌≡◌, ◌≢◌, ◌+◌, ◌-◌, ◌≤◌, ℕ, List, [], ◌∷◌, ◌++◌, length, take, drop, OnOk, OnErr, IfOk};
 ghost use Rattle.std.specs.Str.{chars};
 ghost use Rattle.text_defs.specs.Text.{line_count, most_chars, most_lines};
 ghost use Rattle.line_text.specs.LineEnds.{normed};
-ghost use Rattle.line_text.specs.Lines.{chars_of, IsPlain};
+ghost use Rattle.line_text.specs.Lines.{chars_of, ended, IsPlain, ArePlain};
 
 use crate::before::Before;
 use crate::text::{Line, Text};
+use line_list::{LineList, MOST_ITEMS, Share, Shared};
 use std::alloc::{AllocError, Global};
 use std::marker::Model;
-use std::rc::Rc;
+use std::mem;
+use text_defs::MOST_LINES;
 
 /// A text that is being put together. Clauses see its characters as one list.
 #[derive(Drop)]
 pub(crate) struct Draft {
     alloc: Global,
     /// The lines that have an end.
-    done: Vec<Rc<Line>>,
+    done: LineList<Shared<Line>>,
     /// A line of another text with which the open line begins.
-    shared: Option<Rc<Line>>,
+    shared: Option<Shared<Line>>,
     /// The open line's characters behind that.
     current: Vec<char>,
 }
 
 impl Model for Draft {
-    ghost use Rattle.std.specs.Prelude.{List, ℕ, map, ◌++◌};
-    ghost use Rattle.std.specs.Option.{option_map};
-    ghost use Rattle.std.specs.Rc.{rc_value};
+    ghost use Rattle.std.specs.Prelude.{List, ℕ, ◌++◌};
     ghost use Rattle.line_text.specs.Lines.{ended, chars_of, IsPlain, ArePlain};
 
     ghost Value = { List ℕ };
 
-    ghost view = { λ draft. ended (map rc_value draft.done.items)
-        ++ (chars_of (option_map rc_value draft.shared) ++ draft.current.items) };
+    ghost view = { λ draft. ended draft.done ++ (chars_of draft.shared ++ draft.current.items) };
 
-    ghost invariant = { λ draft. ArePlain (map rc_value draft.done.items)
-        × IsPlain (chars_of (option_map rc_value draft.shared)) × IsPlain draft.current.items };
+    ghost invariant = { λ draft. ArePlain draft.done × IsPlain (chars_of draft.shared) × IsPlain draft.current.items };
 }
 
 impl Draft {
@@ -45,7 +41,7 @@ impl Draft {
     {
         Draft {
             alloc,
-            done: Vec::new(alloc),
+            done: LineList::new(alloc),
             shared: None,
             current: Vec::new(alloc),
         }
@@ -69,7 +65,7 @@ impl Draft {
         ensures { OnOk result (self.new ≡ self.old ++ 10 ∷ []) }
     {
         let line = whole_line(self.alloc, self.shared.take(), self.current.as_slice())?;
-        self.done.push(line)?;
+        add_line(&mut self.done, line)?;
         self.current.clear();
         Ok(())
     }
@@ -77,23 +73,49 @@ impl Draft {
     /// Adds a part of a line of another text. A whole line is shared where it begins the open line.
     pub(crate) fn put_part(
         &mut self,
-        line: &Rc<Line>,
+        line: &Shared<Line>,
         from: usize,
         to: usize,
     ) -> Result<(), AllocError>
         requires rises { from ≤ to }
-        requires within { to ≤ length line.now.value }
-        requires plain { IsPlain line.now.value }
-        ensures { OnOk result (self.new ≡ self.old ++ take (to - from) (drop from line.now.value)) }
+        requires within { to ≤ length line.now }
+        requires plain { IsPlain line.now }
+        ensures { OnOk result (self.new ≡ self.old ++ take (to - from) (drop from line.now)) }
     {
-        let chars = line.chars();
+        let chars = line.get().chars();
         let is_whole = from == 0 && to == chars.len();
         if is_whole && self.shared.is_none() && self.current.is_empty() {
-            self.shared = Some(line.clone()?);
+            self.shared = Some(line.share()?);
             Ok(())
         } else {
             self.current.extend_from_slice(&chars[from..to])
         }
+    }
+
+    /// Adds `count` lines of another text from line `from` on, and an LF behind each. Where no line is open, they are
+    /// shared in the pieces in which that text has them.
+    pub(crate) fn put_lines(
+        &mut self,
+        lines: &LineList<Shared<Line>>,
+        from: usize,
+        count: usize,
+    ) -> Result<(), AllocError>
+        requires within { from + count ≤ length lines.now }
+        requires few { length lines.now ≤ MOST_LINES }
+        requires plain { ArePlain lines.now }
+        ensures { OnOk result (self.new ≡ self.old ++ ended (take count (drop from lines.now))) }
+    {
+        if self.shared.is_none() && self.current.is_empty() {
+            let done = mem::replace(&mut self.done, LineList::new(self.alloc));
+            self.done = with_lines(done, lines, from, count)?;
+            return Ok(());
+        }
+        for n in 0..count {
+            let line = lines.get(from + n);
+            self.put_part(line, 0, line.get().chars().len())?;
+            self.end_line()?;
+        }
+        Ok(())
     }
 
     /// Adds what these characters add to a text.
@@ -116,27 +138,55 @@ impl Draft {
         ensures { IfOk result (λ text. text ≡ self) }
     {
         let line = whole_line(self.alloc, self.shared.take(), self.current.as_slice())?;
-        self.done.push(line)?;
+        add_line(&mut self.done, line)?;
         Ok(Text::of_lines(self.done, chars))
     }
+}
+
+/// Adds a line. A text that is within the limits has fewer lines than a list can have.
+fn add_line(lines: &mut LineList<Shared<Line>>, line: Shared<Line>) -> Result<(), AllocError>
+    ensures ok { OnOk result (lines.new ≡ lines.old ++ line ∷ []) }
+    ensures err { OnErr result (lines.new ≡ lines.old) }
+{
+    if lines.len() >= MOST_ITEMS {
+        return Err(AllocError);
+    }
+    lines.push(line)
+}
+
+/// These lines and then a run of others, in the same way.
+fn with_lines(
+    mut lines: LineList<Shared<Line>>,
+    more: &LineList<Shared<Line>>,
+    from: usize,
+    count: usize,
+) -> Result<LineList<Shared<Line>>, AllocError>
+    requires { from + count ≤ length more.now }
+    ensures { IfOk result (λ all. all ≡ lines ++ take count (drop from more.now)) }
+{
+    if count > MOST_ITEMS - lines.len() {
+        return Err(AllocError);
+    }
+    lines.push_run(more, from, count)?;
+    Ok(lines)
 }
 
 /// The line that begins with this line of another text and goes on with these characters.
 fn whole_line(
     alloc: Global,
-    shared: Option<Rc<Line>>,
+    shared: Option<Shared<Line>>,
     rest: &[char],
-) -> Result<Rc<Line>, AllocError>
-    ensures { IfOk result (λ line. line.value ≡ chars_of (option_map rc_value shared) ++ rest.now) }
+) -> Result<Shared<Line>, AllocError>
+    ensures { IfOk result (λ line. line ≡ chars_of shared ++ rest.now) }
 {
     match shared {
         Some(line) => {
             if rest.is_empty() {
                 Ok(line)
             } else {
-                Ok(Rc::new(alloc, Line::of(alloc, line.chars(), rest)?)?)
+                Shared::new(alloc, Line::of(alloc, line.get().chars(), rest)?)
             }
         }
-        None => Ok(Rc::new(alloc, Line::of(alloc, &[], rest)?)?),
+        None => Shared::new(alloc, Line::of(alloc, &[], rest)?),
     }
 }

@@ -20,6 +20,3 @@ pub use edit::{Edit, EditRefusal};
 pub use edits::Edits;
 pub use read::TextRefusal;
 pub use text::{Line, Text};
-
-#[cfg(test)]
-mod tests;

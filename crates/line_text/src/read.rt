@@ -7,6 +7,7 @@ use crate::draft::Draft;
 use crate::size::size_of;
 use crate::text::Text;
 use std::alloc::{AllocError, Global};
+use text_defs::{MOST_CHARS, MOST_LINES};
 use thiserror::Error;
 
 /// Why a file is no text. `at` is the place of the first byte that begins no character, in bytes from 0, and a
@@ -22,12 +23,6 @@ pub enum TextRefusal {
     #[error("Memory")]
     Memory(AllocError),
 }
-
-/// The largest number of characters of a text, with one LF between two lines.
-pub const MOST_CHARS: u64 = 4_194_304;
-
-/// The largest number of lines of a text.
-pub const MOST_LINES: u64 = 262_144;
 
 impl Text {
     ghost use Rattle.line_text.specs.Refusals.{is_memory};

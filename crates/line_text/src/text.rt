@@ -1,11 +1,12 @@
-ghost use Rattle.std.specs.Prelude.{◌≡◌, ◌≢◌, ◌^◌, ◌++◌, ◌<◌, ◌≤◌, All, length, IfOk};
+ghost use Rattle.std.specs.Prelude.{◌≡◌, ◌≢◌, ◌++◌, ◌<◌, ◌≤◌, All, length, IfOk};
 ghost use Rattle.text_defs.specs.Text.{line_count, line_of};
 ghost use Rattle.text_defs.specs.Place.{holds};
 ghost use Rattle.line_text.specs.PlaceLaws.{EachOffsetHasItsPlace, EachPlaceHasItsOffset};
 
+use line_list::{LineList, Shared};
 use std::alloc::{AllocError, Global};
 use std::marker::Model;
-use std::rc::Rc;
+use text_defs::{MOST_CHARS, MOST_LINES};
 use text_pos::Pos;
 
 /// The characters of one line, without its end.
@@ -44,48 +45,57 @@ impl Line {
 /// A text. Clauses see its characters as one list, with one LF between two lines.
 #[derive(Debug, Drop)]
 pub struct Text {
-    lines: Vec<Rc<Line>>,
+    lines: LineList<Shared<Line>>,
     chars: u32,
 }
 
 impl Model for Text {
-    ghost use Rattle.std.specs.Prelude.{List, ℕ, map};
-    ghost use Rattle.std.specs.Rc.{rc_value};
+    ghost use Rattle.std.specs.Prelude.{List, ℕ};
     ghost use Rattle.line_text.specs.Lines.{joined, IsKept};
 
     ghost Value = { List ℕ };
 
-    ghost view = { λ text. joined (map rc_value text.lines.items) };
+    ghost view = { λ text. joined text.lines };
 
-    ghost invariant = { λ text. IsKept (map rc_value text.lines.items) text.chars };
+    ghost invariant = { λ text. IsKept text.lines text.chars };
 }
 
 impl Text {
-    ghost use Rattle.line_text.specs.Lines.{joined, IsPlain, IsKept};
-    ghost use Rattle.std.specs.Prelude.{map};
-    ghost use Rattle.std.specs.Rc.{rc_value};
+    ghost use Rattle.line_text.specs.Lines.{joined, IsPlain, ArePlain, IsKept};
+    ghost use Rattle.text_defs.specs.Text.{lines_of};
 
     /// The text of these lines.
-    pub(crate) fn of_lines(lines: Vec<Rc<Line>>, chars: u32) -> Text
-        requires { IsKept (map rc_value lines.items) chars }
-        ensures { result ≡ joined (map rc_value lines.items) }
+    pub(crate) fn of_lines(lines: LineList<Shared<Line>>, chars: u32) -> Text
+        requires { IsKept lines chars }
+        ensures { result ≡ joined lines }
     {
         Text { lines, chars }
+    }
+
+    /// The lines, to be shared with another text.
+    pub(crate) fn kept_lines(&self) -> &LineList<Shared<Line>>
+        ensures lines { result.now ≡ lines_of self.now }
+        ensures plain { ArePlain result.now }
+        ensures some { 0 < length result.now }
+        ensures few { length result.now ≤ MOST_LINES }
+        ensures few_chars { length self.now ≤ MOST_CHARS }
+    {
+        &self.lines
     }
 
     /// The number of lines, which is one more than that of the LFs.
     pub fn lines(&self) -> u32
         ensures count { result ≡ line_count self.now }
         ensures some { 0 < result }
-        ensures few { result ≤ 2 ^ 18 }
+        ensures few { result ≤ MOST_LINES }
     {
-        self.lines.len() as u32
+        self.kept_lines().len() as u32
     }
 
     /// The number of characters of the flat text.
     pub fn chars(&self) -> u32
         ensures count { result ≡ length self.now }
-        ensures few { result ≤ 2 ^ 22 }
+        ensures few { result ≤ MOST_CHARS }
     {
         self.chars
     }
@@ -96,19 +106,19 @@ impl Text {
         ensures line { result.now ≡ line_of self.now n }
         ensures no_lf { All (λ c. c ≢ 10) result.now }
         ensures no_cr { All (λ c. c ≢ 13) result.now }
-        ensures few { length result.now ≤ 2 ^ 22 }
+        ensures few { length result.now ≤ MOST_CHARS }
     {
-        self.shared_line(n)
+        self.shared_line(n).get()
     }
 
     /// Line `n`, to be shared with another text.
-    pub(crate) fn shared_line(&self, n: u32) -> &Rc<Line>
+    pub(crate) fn shared_line(&self, n: u32) -> &Shared<Line>
         requires { n < line_count self.now }
-        ensures line { result.now.value ≡ line_of self.now n }
-        ensures plain { IsPlain result.now.value }
-        ensures few { length result.now.value ≤ 2 ^ 22 }
+        ensures line { result.now ≡ line_of self.now n }
+        ensures plain { IsPlain result.now }
+        ensures few { length result.now ≤ MOST_CHARS }
     {
-        &self.lines[n as usize]
+        self.kept_lines().get(n as usize)
     }
 
     /// Whether a place is in the text: its line is there, and is at least so long.

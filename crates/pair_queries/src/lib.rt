@@ -1,4 +1,4 @@
-//! Answers to questions about the pairs of a text.
+//! Answers to questions about the brackets of a text, from its rows.
 #![tactic(auto)]
 
 ghost use Rattle.std.specs.Prelude.{◌≡◌, IfOk};
@@ -10,19 +10,13 @@ pub mod ranges;
 pub use answer_defs::{
     Answer, BracketRow, GuideRow, GuideRows, MarkAt, PairRow, PairRows, Question, Rows, Twin,
 };
-use bracket_lex::{Paired, Row};
+use pairing_defs::Row;
 pub use places::{around, jump, level_at, match_at};
 pub use ranges::{guides, pairs};
 use std::alloc::{AllocError, Global};
 
 /// The brackets of the lines `from` to `to`, in order of the text.
-pub fn brackets(alloc: Global, rows: &Paired, from: u32, to: u32) -> Result<Rows, AllocError>
-    ensures { IfOk result (λ found. found ≡ brackets_in from to rows.now) }
-{
-    brackets_among(alloc, rows.rows(), from, to)
-}
-
-fn brackets_among(alloc: Global, rows: &[Row], from: u32, to: u32) -> Result<Rows, AllocError>
+pub fn brackets(alloc: Global, rows: &[Row], from: u32, to: u32) -> Result<Rows, AllocError>
     ensures { IfOk result (λ found. found ≡ brackets_in from to rows.now) }
 {
     let mut found = Rows::new(alloc);

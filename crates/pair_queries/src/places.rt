@@ -6,30 +6,28 @@ ghost use Rattle.answer_defs.specs.PairAnswers.{stands_at, ends_at, touched, par
 ghost use Rattle.text_defs.specs.Place.{is_before};
 
 use answer_defs::Twin;
-use bracket_lex::{Paired, Role, Row};
+use pairing_defs::{Role, Row};
 use text_pos::{Pos, Span};
 
 /// The bracket at a place and its partner: the bracket that has its first or a further character behind the place, else
 /// the one that ends there. None where no bracket is there, or where it has no partner.
-pub fn match_at(rows: &Paired, at: Pos) -> Option<Twin>
+pub fn match_at(rows: &[Row], at: Pos) -> Option<Twin>
     ensures { result ≡ match_in rows.now at }
 {
-    let rows = rows.rows();
     twin_of(rows, touched(rows, at)?)
 }
 
 /// Of the closed pairs around a place the one that opens last. A pair is around a place where its opener ends there or
 /// before it and its closer starts there or behind it.
-pub fn around(rows: &Paired, at: Pos) -> Option<Twin>
+pub fn around(rows: &[Row], at: Pos) -> Option<Twin>
     ensures { result ≡ around_in rows.now at }
 {
-    let rows = rows.rows();
     twin_of(rows, last_around(rows, at)?)
 }
 
 /// Where to jump from a place: to the partner of the bracket there, else to the closer of the pair around it, else to
 /// the next bracket. None where nothing of these is there.
-pub fn jump(rows: &Paired, at: Pos) -> Option<Pos>
+pub fn jump(rows: &[Row], at: Pos) -> Option<Pos>
     ensures { result ≡ jump_in rows.now at }
 {
     if let Some(twin) = match_at(rows, at) {
@@ -38,18 +36,11 @@ pub fn jump(rows: &Paired, at: Pos) -> Option<Pos>
     if let Some(twin) = around(rows, at) {
         return Some(twin.second.from);
     }
-    next_start(rows.rows(), at)
+    next_start(rows, at)
 }
 
 /// How many pairs are open at a place, with those that nothing closes.
-pub fn level_at(rows: &Paired, at: Pos) -> u32
-    requires { length rows.now < 2 ^ 32 }
-    ensures { result ≡ level_in rows.now at }
-{
-    count_around(rows.rows(), at)
-}
-
-fn count_around(rows: &[Row], at: Pos) -> u32
+pub fn level_at(rows: &[Row], at: Pos) -> u32
     requires { length rows.now < 2 ^ 32 }
     ensures { result ≡ level_in rows.now at }
 {

@@ -5,19 +5,13 @@ ghost use Rattle.answer_defs.specs.PairAnswers.{mark_at, reaches_lines, pair_row
 
 use crate::places::{is_opener, partner_of};
 use answer_defs::{GuideRow, GuideRows, MarkAt, PairRow, PairRows};
-use bracket_lex::{Paired, Row};
 use line_text::Text;
+use pairing_defs::Row;
 use std::alloc::{AllocError, Global};
 
 /// The pairs, closed or not, that reach into the lines `from` to `to`, by opener. A pair reaches from its opener to its
 /// closer, or to where its inside ends.
-pub fn pairs(alloc: Global, rows: &Paired, from: u32, to: u32) -> Result<PairRows, AllocError>
-    ensures { IfOk result (λ found. found ≡ pairs_in rows.now from to) }
-{
-    pairs_among(alloc, rows.rows(), from, to)
-}
-
-fn pairs_among(alloc: Global, rows: &[Row], from: u32, to: u32) -> Result<PairRows, AllocError>
+pub fn pairs(alloc: Global, rows: &[Row], from: u32, to: u32) -> Result<PairRows, AllocError>
     ensures { IfOk result (λ found. found ≡ pairs_in rows.now from to) }
 {
     let mut found = PairRows::new(alloc);
@@ -61,7 +55,7 @@ fn mark_at(row: &Row) -> MarkAt
 /// tab goes to the next multiple of `tab`. As VS Code's bracket pair guides, but for the column.
 pub fn guides(
     alloc: Global,
-    rows: &Paired,
+    rows: &[Row],
     text: &Text,
     tab: u32,
     from: u32,
@@ -76,7 +70,7 @@ pub fn guides(
     prove!(to < lines);
     let mut found = GuideRows::new(alloc);
     for line in from..to + 1 {
-        add_guides(&mut found, rows.rows(), text, tab, line)?;
+        add_guides(&mut found, rows, text, tab, line)?;
     }
     Ok(found)
 }

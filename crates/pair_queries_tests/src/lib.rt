@@ -34,36 +34,35 @@ mod tests {
     #[test]
     fn places_are_answered(rt: HostRuntime) -> Result<(), Fail> {
         let text = Text::from_bytes(rt.alloc(), PROGRAM)?;
-        let rows = rows_of(rt.alloc(), &text)?;
+        let paired = rows_of(rt.alloc(), &text)?;
+        let rows = paired.rows();
         assert_eq!(rt;
-            starts(match_at(&rows, at(0, 10))),
+            starts(match_at(rows, at(0, 10))),
             Some((at(0, 10), at(0, 12)))
         );
         assert_eq!(rt;
-            starts(match_at(&rows, at(4, 1))),
+            starts(match_at(rows, at(4, 1))),
             Some((at(4, 0), at(0, 14)))
         );
-        assert_eq!(rt; starts(match_at(&rows, at(5, 0))), None);
-        assert_eq!(rt;
-            starts(around(&rows, at(2, 0))),
-            Some((at(1, 16), at(3, 2)))
-        );
-        assert_eq!(rt; starts(around(&rows, at(5, 1))), None);
-        assert_eq!(rt; jump(&rows, at(2, 0)), Some(at(3, 2)));
-        assert_eq!(rt; jump(&rows, at(0, 0)), Some(at(0, 10)));
-        assert_eq!(rt; jump(&rows, at(6, 0)), None);
-        assert!(rt; rows.rows().len() == 13);
-        assert_eq!(rt; level_at(&rows, at(1, 8)), 3);
-        assert_eq!(rt; level_at(&rows, at(6, 0)), 1);
+        assert_eq!(rt; starts(match_at(rows, at(5, 0))), None);
+        assert_eq!(rt; starts(around(rows, at(2, 0))), Some((at(1, 16), at(3, 2))));
+        assert_eq!(rt; starts(around(rows, at(5, 1))), None);
+        assert_eq!(rt; jump(rows, at(2, 0)), Some(at(3, 2)));
+        assert_eq!(rt; jump(rows, at(0, 0)), Some(at(0, 10)));
+        assert_eq!(rt; jump(rows, at(6, 0)), None);
+        assert!(rt; rows.len() == 13);
+        assert_eq!(rt; level_at(rows, at(1, 8)), 3);
+        assert_eq!(rt; level_at(rows, at(6, 0)), 1);
         Ok(())
     }
 
     #[test]
     fn ranges_of_lines_are_answered(rt: HostRuntime) -> Result<(), Fail> {
         let text = Text::from_bytes(rt.alloc(), PROGRAM)?;
-        let rows = rows_of(rt.alloc(), &text)?;
-        assert_eq!(rt; brackets(rt.alloc(), &rows, 3, 4)?.as_slice().len(), 2);
-        let found = pairs(rt.alloc(), &rows, 3, 3)?;
+        let paired = rows_of(rt.alloc(), &text)?;
+        let rows = paired.rows();
+        assert_eq!(rt; brackets(rt.alloc(), rows, 3, 4)?.as_slice().len(), 2);
+        let found = pairs(rt.alloc(), rows, 3, 3)?;
         assert_eq!(rt; found.as_slice().len(), 2);
         for pair in found.as_slice() {
             assert!(rt; pair.closer.is_some());
@@ -71,7 +70,7 @@ mod tests {
         }
         for tab in [1, 4, 32] {
             let mut shown = String::new(rt.alloc());
-            for guide in guides(rt.alloc(), &rows, &text, tab, 0, text.lines() - 1)?.as_slice() {
+            for guide in guides(rt.alloc(), rows, &text, tab, 0, text.lines() - 1)?.as_slice() {
                 let row = format!(in rt.alloc();
                     "{} {} {};",
                     guide.line, guide.column, guide.level
@@ -86,9 +85,10 @@ mod tests {
     #[test]
     fn a_tab_goes_to_the_next_multiple(rt: HostRuntime) -> Result<(), Fail> {
         let text = Text::from_bytes(rt.alloc(), b" \t(\n \t )")?;
-        let rows = rows_of(rt.alloc(), &text)?;
+        let paired = rows_of(rt.alloc(), &text)?;
+        let rows = paired.rows();
         for (tab, column) in [(1, 2), (2, 2), (4, 4), (32, 32)] {
-            for guide in guides(rt.alloc(), &rows, &text, tab, 0, text.lines() - 1)?.as_slice() {
+            for guide in guides(rt.alloc(), rows, &text, tab, 0, text.lines() - 1)?.as_slice() {
                 assert_eq!(rt; guide.column, column);
                 assert_eq!(rt; guide.line, 1);
             }

@@ -1,10 +1,10 @@
 -- Worked examples of marks and of pairing, each named by what it shows.
-use Rattle.std.specs.Prelude.{◌≡◌, ℕ, ◌-◌, List, [], ◌∷◌, length, map, codes, Option, Some, None, refl}
+use Rattle.std.specs.Prelude.{◌≡◌, ℕ, ◌-◌, ◌==◌, nat_lt, not, List, [], ◌∷◌, length, map, codes, Option, Some, None, refl}
 use Rattle.pairing_defs.specs.declared.Role.TheVariants.{Opener, Closer}
 use Rattle.pairing_defs.specs.declared.BracketText.{BracketText}
 use Rattle.pairing_defs.specs.declared.LineMark.{LineMark}
 use Rattle.pairing_defs.specs.declared.Row.{Row}
-use Rattle.pairing_defs.specs.Marks.{usual_texts, marks_of, text_marks}
+use Rattle.pairing_defs.specs.Marks.{usual_texts, every_column, marks_of, text_marks}
 use Rattle.pairing_defs.specs.Pairing.{paired}
 
 -- a row's line, first column, the column behind its last, level, kind level and colour
@@ -72,13 +72,13 @@ a_closer_removes_the_openers_behind_its_own = refl
 pub an_opener_that_nothing_removes_ends_with_the_text : map (λ r. r.inner) (rows_at 200 (codes "(" ∷ codes "ab" ∷ [])) ≡ record { line = 1; col = 2 } ∷ []
 an_opener_that_nothing_removes_ends_with_the_text = refl
 
-pub letters_are_no_marks : map columns (marks_of usual_texts 20000 (codes "f(x)[0]")) ≡ (1, 2) ∷ (3, 4) ∷ (4, 5) ∷ (6, 7) ∷ []
+pub letters_are_no_marks : map columns (marks_of usual_texts 20000 every_column (codes "f(x)[0]")) ≡ (1, 2) ∷ (3, 4) ∷ (4, 5) ∷ (6, 7) ∷ []
 letters_are_no_marks = refl
 
-pub a_long_line_has_no_marks : marks_of usual_texts 3 (codes "()a") ≡ []
+pub a_long_line_has_no_marks : marks_of usual_texts 3 every_column (codes "()a") ≡ []
 a_long_line_has_no_marks = refl
 
-pub a_line_below_the_limit_has_marks : map columns (marks_of usual_texts 4 (codes "()a")) ≡ (0, 1) ∷ (1, 2) ∷ []
+pub a_line_below_the_limit_has_marks : map columns (marks_of usual_texts 4 every_column (codes "()a")) ≡ (0, 1) ∷ (1, 2) ∷ []
 a_line_below_the_limit_has_marks = refl
 
 -- texts of one and two characters, two of which are equal
@@ -86,11 +86,21 @@ abbrev pub odd_texts : List BracketText
 odd_texts = record { text = codes "<"; role = Opener 0 } ∷ record { text = codes "<<"; role = Opener 1 } ∷ record { text = codes "<<"; role = Opener 2 }
     ∷ record { text = codes ">>"; role = Closer (record { bits = 3 }) } ∷ []
 
-pub the_longest_text_is_the_mark : map columns (marks_of odd_texts 20000 (codes "<<<")) ≡ (0, 2) ∷ (2, 3) ∷ []
+pub the_longest_text_is_the_mark : map columns (marks_of odd_texts 20000 every_column (codes "<<<")) ≡ (0, 2) ∷ (2, 3) ∷ []
 the_longest_text_is_the_mark = refl
 
-pub the_first_of_equal_texts_is_the_mark : map (λ m. m.role) (marks_of odd_texts 20000 (codes "<<")) ≡ Opener 1 ∷ []
+pub the_first_of_equal_texts_is_the_mark : map (λ m. m.role) (marks_of odd_texts 20000 every_column (codes "<<")) ≡ Opener 1 ∷ []
 the_first_of_equal_texts_is_the_mark = refl
+
+-- the columns from 2 on don't count, as those of a string
+pub a_bracket_where_columns_do_not_count_is_no_mark :
+    map columns (marks_of usual_texts 20000 (λ column. nat_lt column 2) (codes "()()")) ≡ (0, 1) ∷ (1, 2) ∷ []
+a_bracket_where_columns_do_not_count_is_no_mark = refl
+
+-- the second column doesn't count, so no text of two characters stands on it
+pub a_text_stands_only_where_each_of_its_columns_counts :
+    map columns (marks_of odd_texts 20000 (λ column. not (column == 1)) (codes "<<<<")) ≡ (0, 1) ∷ (2, 4) ∷ []
+a_text_stands_only_where_each_of_its_columns_counts = refl
 
 -- ">>" closes kinds 0 and 1
 pub a_closer_of_two_kinds_takes_the_last_of_either : map pairs (paired 200 (record { line = 0; col = 8 }) (text_marks odd_texts 20000 (codes "< <<>>>>" ∷ [])))

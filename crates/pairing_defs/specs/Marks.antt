@@ -1,6 +1,6 @@
--- The marks of a line. A text is a bracket wherever it stands: what stands beside it doesn't count. That the longest
--- text wins, that a very long line has none, and the three built-in pairs are this project's own.
-use Rattle.std.specs.Prelude.{ℕ, zero, suc, ◌+◌, ◌-◌, ◌==◌, List, [], ◌∷◌, ◌++◌, length, map, filter, Bool, false, nat_eq, nat_lt, nat_le, if◌then◌else◌, Option, Some, None}
+-- The marks of a line. A text is a bracket wherever it stands at columns that count: what stands beside it doesn't
+-- matter. That the longest text wins, that a very long line has none, and the three built-in pairs are this project's own.
+use Rattle.std.specs.Prelude.{ℕ, zero, suc, ◌+◌, ◌-◌, ◌==◌, List, [], ◌∷◌, ◌++◌, length, map, filter, drop, Bool, true, false, ◌&&◌, nat_eq, nat_lt, nat_le, if◌then◌else◌, Option, Some, None}
 use Rattle.std.specs.List.{starts_with}
 use Rattle.text_pos.specs.KindSet.{only}
 use Rattle.pairing_defs.specs.declared.Role.TheVariants.{Opener, Closer}
@@ -15,9 +15,20 @@ usual_texts =
     ∷ record { text = 91 ∷ []; role = Opener 1 } ∷ record { text = 93 ∷ []; role = Closer (only 1) }
     ∷ record { text = 40 ∷ []; role = Opener 2 } ∷ record { text = 41 ∷ []; role = Closer (only 2) } ∷ []
 
--- whether the text stands at the front of what is left of a line; an empty text stands nowhere
-abbrev pub stands_at : List ℕ → BracketText → Bool
-stands_at rest b = if length b.text == 0 then false else starts_with nat_eq rest b.text
+-- Which columns of a line count is told by a test of columns: a text is a bracket only where each of its characters
+-- stands at a column that counts.
+abbrev pub every_column : ℕ → Bool
+every_column column = true
+
+-- whether so many columns count, this one and those behind it
+abbrev pub all_count : (ℕ → Bool) → ℕ → ℕ → Bool
+all_count counts column zero = true
+all_count counts column (suc n) = counts column && all_count counts (column + 1) n
+
+-- whether the text stands at a column of the line; an empty text stands nowhere
+abbrev pub stands_at : (ℕ → Bool) → List ℕ → ℕ → BracketText → Bool
+stands_at counts line column b = if length b.text == 0 then false
+    else starts_with nat_eq (drop column line) b.text && all_count counts column (length b.text)
 
 abbrev pub longer : BracketText → Option BracketText → Option BracketText
 longer b None = Some b
@@ -28,9 +39,9 @@ abbrev pub longest : List BracketText → Option BracketText
 longest [] = None
 longest (b ∷ bs) = longer b (longest bs)
 
--- the bracket at the front of what is left of a line
-abbrev pub bracket_at : List BracketText → List ℕ → Option BracketText
-bracket_at texts rest = longest (filter (stands_at rest) texts)
+-- the bracket at a column of the line
+abbrev pub bracket_at : List BracketText → (ℕ → Bool) → List ℕ → ℕ → Option BracketText
+bracket_at texts counts line column = longest (filter (stands_at counts line column) texts)
 
 -- the mark that a bracket at a column is, and how many further columns it takes
 abbrev pub marked : ℕ → Option BracketText → List LineMark
@@ -41,16 +52,18 @@ abbrev pub further : Option BracketText → ℕ
 further None = 0
 further (Some b) = length b.text - 1
 
--- the marks from a column on, of whose characters the first `taken` belong to a mark before it
-abbrev pub marks_from : List BracketText → ℕ → ℕ → List ℕ → List LineMark
-marks_from texts taken column [] = []
-marks_from texts (suc taken) column (c ∷ cs) = marks_from texts taken (column + 1) cs
-marks_from texts zero column (c ∷ cs) =
-    marked column (bracket_at texts (c ∷ cs)) ++ marks_from texts (further (bracket_at texts (c ∷ cs))) (column + 1) cs
+-- the marks from a column on, where `found` says which bracket is at a column: so many columns are left, of which the
+-- first `taken` belong to a mark before them
+abbrev pub marks_from : (ℕ → Option BracketText) → ℕ → ℕ → ℕ → List LineMark
+marks_from found taken column zero = []
+marks_from found (suc taken) column (suc left) = marks_from found taken (column + 1) left
+marks_from found zero column (suc left) =
+    marked column (found column) ++ marks_from found (further (found column)) (column + 1) left
 
 -- the marks of a line, which has none where it has `long` or more characters
-abbrev pub marks_of : List BracketText → ℕ → List ℕ → List LineMark
-marks_of texts long line = if nat_le long (length line) then [] else marks_from texts 0 0 line
+abbrev pub marks_of : List BracketText → ℕ → (ℕ → Bool) → List ℕ → List LineMark
+marks_of texts long counts line = if nat_le long (length line) then []
+    else marks_from (bracket_at texts counts line) 0 0 (length line)
 
 -- a mark of line n
 abbrev pub on_line : ℕ → LineMark → Mark
@@ -61,6 +74,6 @@ abbrev pub marks_of_lines : ℕ → List (List LineMark) → List Mark
 marks_of_lines n [] = []
 marks_of_lines n (ms ∷ lines) = map (on_line n) ms ++ marks_of_lines (n + 1) lines
 
--- the marks of a text, given by its lines
+-- the marks of a text, given by its lines, where every column counts
 abbrev pub text_marks : List BracketText → ℕ → List (List ℕ) → List Mark
-text_marks texts long lines = marks_of_lines 0 (map (marks_of texts long) lines)
+text_marks texts long lines = marks_of_lines 0 (map (marks_of texts long every_column) lines)

@@ -8,6 +8,7 @@ use Rattle.pairing_defs.specs.declared.Role.{Role}
 use Rattle.pairing_defs.specs.declared.Role.TheVariants.{Opener, Closer}
 use Rattle.pairing_defs.specs.declared.Mark.{Mark}
 use Rattle.pairing_defs.specs.declared.Row.{Row}
+use Rattle.pairing_defs.specs.declared.TheConstants.{COLOURS}
 
 -- an open entry: the number of its opener's row, and its kind
 pub record Entry : Type 0 where
@@ -102,10 +103,10 @@ abbrev pub inner_end : Pos → Option Removal → Pos
 inner_end end None = end
 inner_end end (Some r) = r.start
 
--- the level modulo 6, and 6 where there is no partner
+-- the level modulo the number of colours, and that number where there is no partner
 abbrev pub colour_of : ℕ → Option ℕ → ℕ
-colour_of level None = 6
-colour_of level (Some partner) = level % 6
+colour_of level None = COLOURS
+colour_of level (Some partner) = level % COLOURS
 
 abbrev pub row_by : Placed → Option ℕ → Pos → Row
 row_by p partner inner = record { mark = p.mark; level = p.level; own = p.own; colour = colour_of p.level partner; partner = partner; inner = inner }

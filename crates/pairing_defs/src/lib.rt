@@ -3,6 +3,10 @@
 
 use text_pos::{Chars, Kinds, Pos};
 
+/// How many colours brackets with a partner have, in turn by their levels. A bracket without partner has the one behind
+/// these.
+pub const COLOURS: u32 = 6;
+
 /// What a bracket does: it opens a kind, or closes some kinds. A kind is the number of an opener's text.
 #[derive(Clone, Copy, Debug, PartialEq, Eq)]
 pub enum Role {
@@ -41,7 +45,7 @@ pub struct Row {
     pub level: u32,
     /// How many of its own kind are: its kind level.
     pub own: u32,
-    /// 0 to 5 in turn by level; 6 for a bracket without partner.
+    /// The level modulo [`COLOURS`], and [`COLOURS`] for a bracket without partner.
     pub colour: u32,
     /// The number of its partner's row.
     pub partner: Option<u32>,

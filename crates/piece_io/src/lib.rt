@@ -20,6 +20,3 @@ pub use mem_source::MemSource;
 pub use sink::Sink;
 pub use source::{Failed, Source};
 pub use whole::{FileEnd, read_file, write_whole};
-
-#[cfg(test)]
-mod tests;

@@ -8,6 +8,7 @@ ghost use Rattle.piece_io.specs.Pending.{IsOneLine, EndsLine, pending};
 use memchr::memchr;
 use std::alloc::{AllocError, Global};
 use std::marker::Model;
+use text_defs::MOST_LINE_BYTES;
 use text_pos::Bytes;
 
 /// What is handed out for a line: its bytes without the LF, or that it has more bytes than a line may have.
@@ -16,9 +17,6 @@ pub enum Cut {
     Line(Bytes),
     TooLong,
 }
-
-/// The most bytes that a line may have.
-pub const MOST_LINE_BYTES: usize = 1_048_576;
 
 /// Cuts a stream of bytes into lines at each LF, in whatever pieces the stream comes. Once the lines before it
 /// are handed out, what has come of a line that is too long is let go at the next feed, so that a stream without

@@ -6,6 +6,7 @@ use crate::files::Files;
 use crate::sink::Sink;
 use crate::source::Failed;
 use std::alloc::{AllocError, Global};
+use text_defs::MOST_FILE_BYTES;
 use text_pos::Bytes;
 use thiserror::Error;
 
@@ -34,7 +35,7 @@ pub fn read_file<F: Files>(
     name: &str,
     most: u64,
 ) -> Result<Bytes, FileEnd>
-    requires { most ≤ 2 ^ 24 }
+    requires { most ≤ MOST_FILE_BYTES }
     ensures ok { IfOk result (ReadsWhole (F.contents files.old name.now) most) }
     ensures too_long { IfTooLong result (λ taken. (most < taken)
         × IsTooLong (F.contents files.old name.now) most taken) }

@@ -7,8 +7,8 @@ use Rattle.serde_json.specs.Written.{compact_text}
 use Rattle.answer_defs.specs.declared.answer.BracketRow.{BracketRow}
 use Rattle.answer_defs.specs.declared.answer.Answer.{Answer}
 use Rattle.answer_defs.specs.declared.answer.Answer.TheVariants as answer
-use Rattle.answer_defs.specs.declared.refusal.Refusal.{Refusal}
-use Rattle.answer_defs.specs.declared.refusal.Refusal.TheVariants as refusal
+use Rattle.script_words.specs.declared.refusal.Refusal.{Refusal}
+use Rattle.script_words.specs.declared.refusal.Refusal.TheVariants as refusal
 use Rattle.script_words.specs.declared.reply.Reply.{Reply}
 use Rattle.script_words.specs.declared.reply.Reply.TheVariants as reply
 

@@ -6,11 +6,11 @@ use Rattle.serde_json.specs.Read.{read}
 use Rattle.serde_json.specs.Find.{as_array, as_number, as_str, as_u64}
 use Rattle.script_words.specs.declared.command.Command.{Command}
 use Rattle.script_words.specs.declared.command.Command.TheVariants.{Edit, Turn, Ask}
-use Rattle.text_defs.specs.Text.{is_utf8, most_line_bytes}
+use Rattle.text_defs.specs.Text.{is_utf8, most_line_bytes, most_lines}
 use Rattle.text_defs.specs.Batch.{TextEdit}
 use Rattle.answer_defs.specs.declared.answer.Question.TheVariants as question
-use Rattle.answer_defs.specs.declared.refusal.Refusal.{Refusal}
-use Rattle.answer_defs.specs.declared.refusal.Refusal.TheVariants as refusal
+use Rattle.script_words.specs.declared.refusal.Refusal.{Refusal}
+use Rattle.script_words.specs.declared.refusal.Refusal.TheVariants as refusal
 
 -- what a line means: a command, or the first refusal that fits
 pub data Reading : Type 0 where
@@ -90,8 +90,9 @@ only_member (string s) = None
 only_member (array ds) = None
 only_member (object ms) = only_of_members ms
 
+-- a turn does at most as many lines as a text may have
 abbrev pub is_turn : ℕ → Bool
-is_turn k = nat_lt 0 k && nat_le k 262144
+is_turn k = nat_lt 0 k && nat_le k most_lines
 
 abbrev pub turn_of : ℕ → Option Command
 turn_of k = if is_turn k then Some (Turn k) else None

@@ -1,7 +1,7 @@
 ghost use Rattle.std.specs.Prelude.{◌≡◌, IfOk, IsErrOf, option_map, Some, None};
 ghost use Rattle.std.specs.Str.{chars};
 ghost use Rattle.serde_json.specs.View.{view, items_view};
-ghost use Rattle.answer_defs.specs.declared.refusal.Refusal.TheVariants as refusal;
+ghost use Rattle.script_words.specs.declared.refusal.Refusal.TheVariants as refusal;
 ghost use Rattle.script_words.specs.Script.{both, meaning_of, json_of, refused, command, command_in, member_command, numbers_command, only_member, number_in, pair_in, turn_of, edit_in, edits_in, edits_of_items};
 
 use answer_defs::Question;
@@ -9,6 +9,7 @@ use line_text::{Edit, Edits};
 use serde_json::Value;
 use std::alloc::{AllocError, Global};
 use std::str;
+use text_defs::MOST_LINES;
 use text_pos::{Pos, Span};
 use thiserror::Error;
 
@@ -110,10 +111,11 @@ fn numbers_command(key: &str, member: &Value) -> Option<Command>
     }
 }
 
+/// A turn, of at most as many lines as a text may have.
 fn turn_of(lines: u32) -> Option<Command>
     ensures { result ≡ turn_of lines }
 {
-    if 0 < lines && lines <= MOST_LINES_OF_A_TURN {
+    if 0 < lines && u64::from(lines) <= MOST_LINES {
         Some(Command::Turn(lines))
     } else {
         None
@@ -209,6 +211,3 @@ fn number_in(value: &Value) -> Option<u32>
         None
     }
 }
-
-/// A turn does at most as many lines as a text may have.
-const MOST_LINES_OF_A_TURN: u32 = 262_144;

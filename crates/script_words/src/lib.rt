@@ -2,12 +2,11 @@
 #![tactic(auto)]
 
 pub mod command;
+pub mod refusal;
 pub mod reply;
 
-pub use answer_defs::{Answer, BracketRow, MarkAt, Question, Refusal, Rows};
+pub use answer_defs::{Answer, BracketRow, MarkAt, Question, Rows};
 pub use command::{Command, CommandRefusal};
 pub use line_text::{Edit, Edits};
+pub use refusal::Refusal;
 pub use reply::Reply;
-
-#[cfg(test)]
-mod tests;

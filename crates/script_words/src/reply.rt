@@ -3,7 +3,8 @@ ghost use Rattle.serde_json.specs.Data.{array, string, boolean, object, member, 
 ghost use Rattle.serde_json.specs.View.{view, items_of};
 ghost use Rattle.script_words.specs.ReplyText.{answer_data, chars_data, reply_data, reply_text, row_data, rows_data, word_of};
 
-use answer_defs::{Answer, BracketRow, Refusal};
+use crate::refusal::Refusal;
+use answer_defs::{Answer, BracketRow};
 use serde_json::{Value, json};
 use std::alloc::{AllocError, Global};
 use text_pos::Bytes;

@@ -1,19 +1,21 @@
 -- All that the program writes for a text file and a script.
 use Rattle.std.specs.Prelude.{ℕ, ◌^◌, ◌==◌, ◌&&◌, List, [], ◌∷◌, ◌++◌, length, map, nat_le, Bool, if◌then◌else◌}
 use Rattle.text_pos.specs.declared.limits.Limits.{Limits}
-use Rattle.answer_defs.specs.Answers.{Settings, usual}
+use Rattle.document_defs.specs.TextRows.{Settings, usual}
+use Rattle.text_defs.specs.declared.limits.TheConstants.{MOST_FILE_BYTES}
 use Rattle.text_defs.specs.Text.{text_of, is_text, whole_lines, unfinished}
 use Rattle.script_words.specs.ReplyText.{reply_text}
 use Rattle.script_words.specs.Script.{Reading, reading_of}
+use Rattle.session_defs.specs.declared.limits.TheConstants.{MOST_SCRIPT_BYTES}
 use Rattle.session_defs.specs.Session.{replies_to, text_behind, opened}
 
 -- the largest file
 abbrev pub most_file_bytes : ℕ
-most_file_bytes = 2 ^ 24
+most_file_bytes = MOST_FILE_BYTES
 
 -- as many bytes of script as are taken at most
 abbrev pub most_script_bytes : ℕ
-most_script_bytes = 2 ^ 32
+most_script_bytes = MOST_SCRIPT_BYTES
 
 -- whether a text file is accepted
 abbrev pub is_accepted : List ℕ → Bool

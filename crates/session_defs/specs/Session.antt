@@ -3,11 +3,15 @@ use Rattle.std.specs.Prelude.{ℕ, List, [], ◌∷◌, ◌++◌, length, Bool, 
 use Rattle.text_defs.specs.Text.{line_count, whole_lines, unfinished}
 use Rattle.text_defs.specs.Batch.{TextEdit, BatchRefusal, range, order, too_many_chars, too_many_lines, batch_refusal, edited}
 use Rattle.answer_defs.specs.declared.answer.Question.{Question}
-use Rattle.answer_defs.specs.declared.refusal.Refusal.{Refusal}
-use Rattle.answer_defs.specs.declared.refusal.Refusal.TheVariants as refusal
+use Rattle.answer_defs.specs.declared.refusal.QuestionRefusal.{QuestionRefusal}
+use Rattle.answer_defs.specs.declared.refusal.QuestionRefusal.TheVariants as cause
+use Rattle.script_words.specs.declared.refusal.Refusal.{Refusal}
+use Rattle.script_words.specs.declared.refusal.Refusal.TheVariants as refusal
 use Rattle.script_words.specs.declared.reply.Reply.{Reply}
 use Rattle.script_words.specs.declared.reply.Reply.TheVariants as reply
-use Rattle.answer_defs.specs.Answers.{Settings, question_refusal, answer_of}
+use Rattle.answer_defs.specs.Answers.{question_refusal}
+use Rattle.document_defs.specs.TextRows.{Settings}
+use Rattle.document_defs.specs.DocumentAnswers.{answer_of}
 use Rattle.script_words.specs.ReplyText.{reply_text}
 use Rattle.script_words.specs.Script.{Reading, refused, command, reading_of}
 use Rattle.script_words.specs.declared.command.Command.{Command}
@@ -18,9 +22,13 @@ pub record Step : Type 0 where
   pub reply : Reply
   pub text : List ℕ
 
-abbrev pub answered : Settings → List ℕ → Question → Option Refusal → Reply
+-- the word for why a question is refused
+abbrev pub refusal_of_question : QuestionRefusal → Refusal
+refusal_of_question (cause.Line lines) = refusal.Line
+
+abbrev pub answered : Settings → List ℕ → Question → Option QuestionRefusal → Reply
 answered settings text q None = reply.Answered (answer_of settings text q)
-answered settings text q (Some why) = reply.Refused why
+answered settings text q (Some why) = reply.Refused (refusal_of_question why)
 
 -- the word for why a batch is refused
 abbrev pub refusal_of_batch : BatchRefusal → Refusal

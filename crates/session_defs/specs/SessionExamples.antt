@@ -11,11 +11,12 @@ use Rattle.serde_json.proofs.OnLiterals.{serde_json_on_literals}
 use Rattle.answer_defs.specs.declared.answer.BracketRow.{BracketRow}
 use Rattle.answer_defs.specs.declared.answer.Answer.TheVariants as answer
 use Rattle.answer_defs.specs.declared.answer.Question.TheVariants as question
-use Rattle.answer_defs.specs.declared.refusal.Refusal.TheVariants as refusal
+use Rattle.script_words.specs.declared.refusal.Refusal.TheVariants as refusal
 use Rattle.script_words.specs.declared.reply.Reply.TheVariants as reply
 use Rattle.script_words.specs.declared.command.Command.TheVariants.{Ask, Turn}
 use Rattle.script_words.specs.Script.{refused, command, meaning_of, reading_of}
-use Rattle.answer_defs.specs.Answers.{is_range, rows_of, usual}
+use Rattle.answer_defs.specs.Answers.{is_range}
+use Rattle.document_defs.specs.TextRows.{rows_of, usual}
 use Rattle.script_words.specs.ReplyText.{reply_text}
 use Rattle.session_defs.specs.Words.{request_of, limits_with}
 use Rattle.session_defs.specs.Output.{output_of, written_so_far, is_accepted}

@@ -8,13 +8,15 @@ use Rattle.line_text.proofs.size.size_of.Goals as goal
 pub loop-c-preserved-in-Some-take : goal.loop-c-preserved-in-Some-take
 loop-c-preserved-in-Some-take c =
     let step = c.in-Some.ensures.steps.0 in
-    let takes : Takes c.loop-c.before c.in-Some.c (Some c.in-Some-take.added) c.take.new.self = record { adds = c.in-Some-take.ensures.adds } in
+    let takes : Takes c.loop-c.before c.in-Some.c (Some c.in-Some-take.added) c.take.new.self =
+    record { adds = c.in-Some-take.ensures.adds } in
     let had = c.loop-c.invariant.counted in
     record {
       rest_utf8 = IsUtf8-past_char _ _ _ c.loop-c.invariant.rest_utf8 step;
       counted = (
         had.0 ++ c.in-Some-take.added ∷ [],
-        IsSizeOf-push had.0 c.in-Some-take.added c.loop-c.size c.count.new.self had.1 c.count.ensures.chars c.count.ensures.lines,
+        IsSizeOf-push had.0 c.in-Some-take.added c.loop-c.size c.count.new.self had.1 c.count.ensures.chars
+            c.count.ensures.lines,
         normed_step _ _ _ _ _ _ _ _ c.loop-c.invariant.rest_utf8 step takes had.2,
       );
     }
@@ -26,7 +28,12 @@ loop-c-preserved c =
     let had = c.loop-c.invariant.counted in
     record {
       rest_utf8 = IsUtf8-past_char _ _ _ c.loop-c.invariant.rest_utf8 step;
-      counted = (had.0, had.1, rw (← append-nil had.0) (normed_step _ _ _ _ _ _ _ _ c.loop-c.invariant.rest_utf8 step takes had.2));
+      counted = (
+        had.0,
+        had.1,
+        rw (← append-nil had.0)
+            (normed_step _ _ _ _ _ _ _ _ c.loop-c.invariant.rest_utf8 step takes had.2),
+      );
     }
 
 pub returns : goal.returns

@@ -9,5 +9,6 @@ use Rattle.line_text.proofs.size.size_of.Given as goal
 abbrev pub invariant-loop-c : goal.invariant-loop-c
 invariant-loop-c l = record {
   rest_utf8 : IsUtf8 (chars_rest l.c-iterator);
-  counted : (front : List ℕ) × (IsSizeOf front l.size) × (front ++ normed l.before (chars (chars_rest l.c-iterator)) ≡ normed l.initial.before (chars l.text));
+  counted : (front : List ℕ) × (IsSizeOf front l.size)
+      × (front ++ normed l.before (chars (chars_rest l.c-iterator)) ≡ normed l.initial.before (chars l.text));
 }

@@ -10,28 +10,34 @@ loop-n-preserved c =
     let marks = rw (c.line.ensures.line) at c.in_ok-marks.ensures.marks in
     let len = rw (c.line.ensures.line) at c.in_ok-marks.ensures.length in
     record {
-      lines = lines_more c.args.brackets.now c.args.long c.loop-n.n (lines_of c.args.text.now) c.loop-n.lines c.push.new.self c.in_ok-marks.field-0
+      lines = lines_more c.args.brackets.now c.args.long c.loop-n.n (lines_of c.args.text.now) c.loop-n.lines
+          c.push.new.self c.in_ok-marks.field-0
           below c.loop-n.invariant.lines marks len c.in_ok-push.ensures.ok;
-      count = ap length c.in_ok-push.ensures.ok ∙ length-append c.loop-n.lines (c.in_ok-marks.field-0 ∷ []) ∙ ap (λ n. n + 1) c.loop-n.invariant.count;
+      count = ap length c.in_ok-push.ensures.ok ∙ length-append c.loop-n.lines (c.in_ok-marks.field-0 ∷ [])
+          ∙ ap (λ n. n + 1) c.loop-n.invariant.count;
     }
 
 pub returns-clause-lines : goal.returns-clause-lines
 returns-clause-lines c =
-    lines_all c.args.brackets.now c.args.long c.loop-n.n (lines_of c.args.text.now) c.loop-n.lines (omega arith) c.loop-n.invariant.lines
+    lines_all c.args.brackets.now c.args.long c.loop-n.n (lines_of c.args.text.now) c.loop-n.lines (omega arith)
+    c.loop-n.invariant.lines
 
 pub returns-clause-marks : goal.returns-clause-marks
 returns-clause-marks c =
-    let whole = lines_all c.args.brackets.now c.args.long c.loop-n.n (lines_of c.args.text.now) c.loop-n.lines (omega arith) c.loop-n.invariant.lines in
+    let whole = lines_all c.args.brackets.now c.args.long c.loop-n.n (lines_of c.args.text.now) c.loop-n.lines
+    (omega arith) c.loop-n.invariant.lines in
     ap marks_in whole ∙ marks_in-marked c.args.brackets.now c.args.long (lines_of c.args.text.now)
 
 pub returns-clause-few : goal.returns-clause-few
 returns-clause-few c =
-    let whole = lines_all c.args.brackets.now c.args.long c.loop-n.n (lines_of c.args.text.now) c.loop-n.lines (omega arith) c.loop-n.invariant.lines in
+    let whole = lines_all c.args.brackets.now c.args.long c.loop-n.n (lines_of c.args.text.now) c.loop-n.lines
+    (omega arith) c.loop-n.invariant.lines in
     let marks = ap marks_in whole ∙ marks_in-marked c.args.brackets.now c.args.long (lines_of c.args.text.now) in
     let few = text_few c.args.brackets.now c.args.long c.args.text.now in
     omega (arith, ap length marks, few)
 
 pub returns-clause-end : goal.returns-clause-end
 returns-clause-end c =
-    let whole = lines_all c.args.brackets.now c.args.long c.loop-n.n (lines_of c.args.text.now) c.loop-n.lines (omega arith) c.loop-n.invariant.lines in
+    let whole = lines_all c.args.brackets.now c.args.long c.loop-n.n (lines_of c.args.text.now) c.loop-n.lines
+    (omega arith) c.loop-n.invariant.lines in
     ap text_end whole ∙ text_end-marked c.args.brackets.now c.args.long c.args.text.now

@@ -6,5 +6,6 @@ invariant_of-self-else-is_whole c =
     rw c.extend_from_slice.ensures.items (
       c.self.invariant.0,
       c.self.invariant.1,
-      IsPlain-cond _ _ _ c.self.invariant.2 (rw (c.chars-chars.ensures, c.deref.ensures) (IsPlain-take _ _ (IsPlain-drop _ _ c.requires.plain))),
+      IsPlain-cond _ _ _ c.self.invariant.2 (rw (c.chars-chars.ensures, c.get.ensures)
+          (IsPlain-take _ _ (IsPlain-drop _ _ c.requires.plain))),
     )

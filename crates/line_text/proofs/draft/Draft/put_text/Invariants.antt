@@ -8,5 +8,6 @@ use Rattle.line_text.proofs.draft.Draft.put_text.Given as goal
 abbrev pub invariant-loop-c : goal.invariant-loop-c
 invariant-loop-c l = record {
   rest_utf8 : IsUtf8 (chars_rest l.c-iterator);
-  added : l.self ++ normed l.before (chars (chars_rest l.c-iterator)) ≡ l.initial.self ++ normed l.initial.before (chars l.text);
+  added : l.self ++ normed l.before (chars (chars_rest l.c-iterator))
+      ≡ l.initial.self ++ normed l.initial.before (chars l.text);
 }

@@ -8,5 +8,6 @@ use Rattle.line_text.proofs.text.Text.carry_after.Given as goal
 abbrev pub invariant-loop-edit : goal.invariant-loop-edit
 invariant-loop-edit l = record {
   gap : IsAtGap l.self (line_count (edited l.self l.edits)) (drop l.edit-index l.edits) l.old l.new;
-  listed : l.carry ++ gaps (line_count l.self) l.old l.new (drop l.edit-index l.edits) ≡ gaps (line_count l.self) 0 0 l.edits;
+  listed : l.carry ++ gaps (line_count l.self) l.old l.new (drop l.edit-index l.edits)
+      ≡ gaps (line_count l.self) 0 0 l.edits;
 }

@@ -12,10 +12,14 @@ loop-edit-init c = record {
 
 pub loop-edit-preserved : goal.loop-edit-preserved
 loop-edit-preserved c =
-    let here : AtSpan c.args.self.now c.loop-edit.at c.args.edits.now c.loop-edit.edit-index c.span-span.result c.edit-item.result.text =
-    at_span c.args.self.now c.loop-edit.at c.args.edits.now c.loop-edit.edit-index c.edit-item.result c.span-span.result c.loop-edit.invariant.valid c.loop-edit-test.true c.edit-item.is c.span-span.ensures in
+    let here : AtSpan c.args.self.now c.loop-edit.at c.args.edits.now c.loop-edit.edit-index c.span-span.result
+    c.edit-item.result.text =
+    at_span c.args.self.now c.loop-edit.at c.args.edits.now c.loop-edit.edit-index c.edit-item.result
+    c.span-span.result c.loop-edit.invariant.valid c.loop-edit-test.true c.edit-item.is c.span-span.ensures in
     record {
       there = here.to;
       valid = here.later;
-      built = built_step c.loop-edit.draft c.copy_between.new.draft c.put_text.new.self _ (norm c.edit-item.result.text) _ _ _ c.in_ok-copy_between.ensures (rw c.text.ensures at c.in_ok-put_text.ensures) here.replaces c.loop-edit.invariant.built;
+      built = built_step c.loop-edit.draft c.copy_between.new.draft c.put_text.new.self _
+          (norm c.edit-item.result.text) _ _ _ c.in_ok-copy_between.ensures
+          (rw c.text.ensures at c.in_ok-put_text.ensures) here.replaces c.loop-edit.invariant.built;
     }

@@ -1,0 +1,10 @@
+-- Why a question has no answer: the cause of `answer_defs`, or want of memory.
+use Rattle.std.specs.Prelude.{◌≡◌, Option, Some}
+use Rattle.answer_defs.specs.declared.refusal.QuestionRefusal.{QuestionRefusal}
+use Rattle.answer_defs.specs.declared.refusal.QuestionRefusal.TheVariants as cause
+use Rattle.document.specs.declared.document.AskRefusal.{AskRefusal}
+use Rattle.document.specs.declared.document.AskRefusal.TheVariants.{Line, Memory}
+
+abbrev pub HasAskCause : Option QuestionRefusal → AskRefusal → Type 0
+HasAskCause why (Line lines) = why ≡ Some (cause.Line lines)
+HasAskCause why (Memory error) = Unit {0}

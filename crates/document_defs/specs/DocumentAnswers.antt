@@ -1,0 +1,9 @@
+-- What a document answers: the rows of its text, made anew from the first line, give the answer to a question.
+use Rattle.std.specs.Prelude.{ℕ, List}
+use Rattle.answer_defs.specs.declared.answer.Question.{Question}
+use Rattle.answer_defs.specs.declared.answer.Answer.{Answer}
+use Rattle.answer_defs.specs.Answers.{answer_among}
+use Rattle.document_defs.specs.TextRows.{Settings, rows_of}
+
+abbrev pub answer_of : Settings → List ℕ → Question → Answer
+answer_of settings text q = answer_among (rows_of settings text) text q

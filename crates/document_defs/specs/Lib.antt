@@ -1,0 +1,2 @@
+pub mod DocumentAnswers
+pub mod TextRows

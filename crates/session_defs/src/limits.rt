@@ -1,0 +1,20 @@
+/// As many bytes of script as are taken at most: 2^32.
+pub const MOST_SCRIPT_BYTES: u64 = 4_294_967_296;
+
+/// How many brackets may be open at once, where no word says otherwise.
+pub const USUAL_NESTING: u32 = 200;
+
+/// The most that the words may ask for.
+pub const MOST_NESTING: u32 = 300;
+
+/// How many visits one attempt of a pattern has.
+pub const USUAL_BUDGET: u32 = 100_000;
+
+/// A line of so many characters has no brackets.
+pub const USUAL_LONG: u32 = 20_000;
+
+/// How many columns a tab takes at most.
+pub const USUAL_TAB: u32 = 4;
+
+/// The most digits of a number among the words.
+pub const MOST_DIGITS: usize = 10;
