@@ -10,13 +10,17 @@ abbrev handed : Cut × Cutting → List Cut
 handed p = p.0 ∷ given p.1
 
 -- handing one out leaves the others
-first-given : (cuts : List Cut) (ended : Bool) (p : Cut × Cutting) → first_cut cuts ended ≡ Some p → lines_given cuts ended ≡ handed p
+first-given : (cuts : List Cut) (ended : Bool) (p : Cut × Cutting) → first_cut cuts ended ≡ Some p
+    → lines_given cuts ended ≡ handed p
 first-given [] ended p e = cc
 first-given (x ∷ []) false p e = cc
-first-given (TooLong ∷ []) true p e = let same : (TooLong, record { cuts = Line [] ∷ []; ended = true }) ≡ p = cc in ap handed same
+first-given (TooLong ∷ []) true p e = let same : (TooLong, record { cuts = Line [] ∷ []; ended = true }) ≡ p =
+    cc in ap handed same
 first-given (Line [] ∷ []) true p e = cc
-first-given (Line (b ∷ bytes) ∷ []) true p e = let same : (Line (b ∷ bytes), record { cuts = Line [] ∷ []; ended = true }) ≡ p = cc in ap handed same
-first-given (x ∷ y ∷ later) ended p e = let same : (x, record { cuts = y ∷ later; ended = ended }) ≡ p = cc in ap handed same
+first-given (Line (b ∷ bytes) ∷ []) true p e =
+    let same : (Line (b ∷ bytes), record { cuts = Line [] ∷ []; ended = true }) ≡ p = cc in ap handed same
+first-given (x ∷ y ∷ later) ended p e = let same : (x, record { cuts = y ∷ later; ended = ended }) ≡ p =
+    cc in ap handed same
 
 pub given-next : (c : Cutting) (p : Cut × Cutting) → next_cut c ≡ Some p → given c ≡ p.0 ∷ given p.1
 given-next c p e = first-given c.cuts c.ended p e
@@ -35,10 +39,14 @@ given-none c e = first-none c.cuts c.ended e
 first-ended : (cuts : List Cut) (ended : Bool) (p : Cut × Cutting) → first_cut cuts ended ≡ Some p → p.1.ended ≡ ended
 first-ended [] ended p e = cc
 first-ended (x ∷ []) false p e = cc
-first-ended (TooLong ∷ []) true p e = let same : (TooLong, record { cuts = Line [] ∷ []; ended = true }) ≡ p = cc in ap (λ q. q.1.ended) (sym same)
+first-ended (TooLong ∷ []) true p e = let same : (TooLong, record { cuts = Line [] ∷ []; ended = true }) ≡ p =
+    cc in ap (λ q. q.1.ended) (sym same)
 first-ended (Line [] ∷ []) true p e = cc
-first-ended (Line (b ∷ bytes) ∷ []) true p e = let same : (Line (b ∷ bytes), record { cuts = Line [] ∷ []; ended = true }) ≡ p = cc in ap (λ q. q.1.ended) (sym same)
-first-ended (x ∷ y ∷ later) ended p e = let same : (x, record { cuts = y ∷ later; ended = ended }) ≡ p = cc in ap (λ q. q.1.ended) (sym same)
+first-ended (Line (b ∷ bytes) ∷ []) true p e =
+    let same : (Line (b ∷ bytes), record { cuts = Line [] ∷ []; ended = true }) ≡ p =
+    cc in ap (λ q. q.1.ended) (sym same)
+first-ended (x ∷ y ∷ later) ended p e = let same : (x, record { cuts = y ∷ later; ended = ended }) ≡ p =
+    cc in ap (λ q. q.1.ended) (sym same)
 
 pub ended-next : (c : Cutting) (p : Cut × Cutting) → next_cut c ≡ Some p → p.1.ended ≡ c.ended
 ended-next c p e = first-ended c.cuts c.ended p e
@@ -47,7 +55,9 @@ ended-next c p e = first-ended c.cuts c.ended p e
 first-last : (cuts : List Cut) (p : Cut × Cutting) → first_cut cuts false ≡ Some p → last_of p.1.cuts ≡ last_of cuts
 first-last [] p e = cc
 first-last (x ∷ []) p e = cc
-first-last (x ∷ y ∷ later) p e = let same : (x, record { cuts = y ∷ later; ended = false }) ≡ p = cc in ap (λ q. last_of q.1.cuts) (sym same)
+first-last (x ∷ y ∷ later) p e = let same : (x, record { cuts = y ∷ later; ended = false }) ≡ p =
+    cc in ap (λ q. last_of q.1.cuts) (sym same)
 
-pub last-next : (c : Cutting) (p : Cut × Cutting) → c.ended ≡ false → next_cut c ≡ Some p → last_of p.1.cuts ≡ last_of c.cuts
+pub last-next : (c : Cutting) (p : Cut × Cutting) → c.ended ≡ false → next_cut c ≡ Some p → last_of p.1.cuts
+    ≡ last_of c.cuts
 last-next c p going e = first-last c.cuts p (ap (first_cut c.cuts) (sym going) ∙ e)

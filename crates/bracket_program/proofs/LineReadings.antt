@@ -11,7 +11,8 @@ use Rattle.script_words.specs.Script.{refused, meaning_of, reading_of}
 use Rattle.session_defs.specs.Output.{line_if_any}
 use Rattle.bracket_program.specs.Lines.{cut_reading, lines_given, last_given, last_of}
 
-cut_reading-by : (b : Bool) (line : List ℕ) → cut_reading (if b then TooLong else Line line) ≡ (if b then refused refusal.Long else meaning_of line)
+cut_reading-by : (b : Bool) (line : List ℕ) → cut_reading (if b then TooLong else Line line)
+    ≡ (if b then refused refusal.Long else meaning_of line)
 cut_reading-by true line = refl
 cut_reading-by false line = refl
 
@@ -20,7 +21,8 @@ cut_reading-cut_of line = cut_reading-by (nat_lt most_line_bytes (length line)) 
 
 pub readings_of_cuts : (lines : List (List ℕ)) → map cut_reading (map cut_of lines) ≡ map reading_of lines
 readings_of_cuts [] = refl
-readings_of_cuts (line ∷ lines) = ap (λ r. r ∷ map cut_reading (map cut_of lines)) (cut_reading-cut_of line) ∙ ap (λ rs. reading_of line ∷ rs) (readings_of_cuts lines)
+readings_of_cuts (line ∷ lines) = ap (λ r. r ∷ map cut_reading (map cut_of lines)) (cut_reading-cut_of line)
+    ∙ ap (λ rs. reading_of line ∷ rs) (readings_of_cuts lines)
 
 given-lines : (lines : List (List ℕ)) → lines_given (map cut_of lines) false ≡ map cut_of (all_but_last lines)
 given-lines [] = refl
@@ -35,7 +37,8 @@ readings_given-going cuts ended bytes e f =
     ∙ (ap (λ b. map cut_reading (lines_given (cuts_of bytes) b)) f
     ∙ (ap (map cut_reading) (given-lines (lines_of bytes)) ∙ readings_of_cuts (whole_lines bytes)))
 
-last_given-by : (b : Bool) (c : ℕ) (line : List ℕ) → last_given (if b then TooLong else Line (c ∷ line)) true ≡ (if b then TooLong else Line (c ∷ line)) ∷ []
+last_given-by : (b : Bool) (c : ℕ) (line : List ℕ) → last_given (if b then TooLong else Line (c ∷ line)) true
+    ≡ (if b then TooLong else Line (c ∷ line)) ∷ []
 last_given-by true c line = refl
 last_given-by false c line = refl
 
@@ -44,18 +47,21 @@ last_given-line [] = refl
 last_given-line (c ∷ line) = last_given-by (nat_lt most_line_bytes (length (c ∷ line))) c line
 
 -- when nothing more comes, the unfinished line is handed out too
-pub readings_given-ended : (cuts : List Cut) (ended : Bool) (script : List ℕ) → cuts ≡ cuts_of (unfinished script) → ended ≡ true
+pub readings_given-ended : (cuts : List Cut) (ended : Bool) (script : List ℕ) → cuts ≡ cuts_of (unfinished script)
+    → ended ≡ true
     → map cut_reading (lines_given cuts ended) ≡ map reading_of (line_if_any (unfinished script))
 readings_given-ended cuts ended script e f =
     ap (λ cs. map cut_reading (lines_given cs ended)) (e ∙ ap (map cut_of) (unfinished-line script))
     ∙ (ap (λ b. map cut_reading (lines_given (cut_of (unfinished script) ∷ []) b)) f
     ∙ (ap (map cut_reading) (last_given-line (unfinished script)) ∙ readings_of_cuts (line_if_any (unfinished script))))
 
-last-lines : (lines : List (List ℕ)) (line : List ℕ) → last_of (map cut_of (line ∷ lines)) ≡ cut_of (last_line (line ∷ lines)) ∷ []
+last-lines : (lines : List (List ℕ)) (line : List ℕ) → last_of (map cut_of (line ∷ lines))
+    ≡ cut_of (last_line (line ∷ lines)) ∷ []
 last-lines [] line = refl
 last-lines (next ∷ later) line = last-lines later next
 
-last-some : (lines front : List (List ℕ)) (line : List ℕ) → lines ≡ front ++ line ∷ [] → last_of (map cut_of lines) ≡ cut_of (last_line lines) ∷ []
+last-some : (lines front : List (List ℕ)) (line : List ℕ) → lines ≡ front ++ line ∷ [] → last_of (map cut_of lines)
+    ≡ cut_of (last_line lines) ∷ []
 last-some [] [] line e = cc
 last-some [] (x ∷ front) line e = cc
 last-some (x ∷ lines) front line e = last-lines lines x
@@ -66,8 +72,10 @@ none-alone (x ∷ []) e = refl
 none-alone (x ∷ y ∷ later) e = cc
 
 -- what is left when each whole line was handed out
-pub pending-left : (cutter : Cutting) (before : List Cut) (script piece : List ℕ) → next_cut cutter ≡ None → cutter.ended ≡ false
-    → last_of cutter.cuts ≡ last_of before → before ≡ cuts_of (unfinished script ++ piece) → cutter.cuts ≡ cuts_of (unfinished (script ++ piece))
+pub pending-left : (cutter : Cutting) (before : List Cut) (script piece : List ℕ) → next_cut cutter ≡ None
+    → cutter.ended ≡ false
+    → last_of cutter.cuts ≡ last_of before → before ≡ cuts_of (unfinished script ++ piece) → cutter.cuts
+    ≡ cuts_of (unfinished (script ++ piece))
 pending-left cutter before script piece n f l e =
     let bytes = unfinished script ++ piece in
     none-alone cutter.cuts (ap (first_cut cutter.cuts) (sym f) ∙ n)

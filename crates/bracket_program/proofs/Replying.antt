@@ -15,7 +15,8 @@ pub appended-nil : (held : Option (List ℕ)) → held ≡ appended held []
 appended-nil None = refl
 appended-nil (Some bytes) = ap Some (sym (append-nil bytes))
 
-pub appended-appended : (held : Option (List ℕ)) (xs ys : List ℕ) → appended (appended held xs) ys ≡ appended held (xs ++ ys)
+pub appended-appended : (held : Option (List ℕ)) (xs ys : List ℕ) → appended (appended held xs) ys
+    ≡ appended held (xs ++ ys)
 appended-appended None xs ys = refl
 appended-appended (Some bytes) xs ys = ap Some (append_assoc bytes xs ys)
 
@@ -33,11 +34,13 @@ more_written {before} {now} {all} xs rest after w e = record {
 }
 
 -- all is written
-pub all_written : {before after : Option (List ℕ)} {all : List ℕ} → WritesUpTo before after all [] → after ≡ appended before all
+pub all_written : {before after : Option (List ℕ)} {all : List ℕ} → WritesUpTo before after all [] → after
+    ≡ appended before all
 all_written {before} w = w.adds ∙ ap (appended before) (sym (append-nil w.part) ∙ w.whole)
 
 -- writing stops
-pub front_written : {before after : Option (List ℕ)} {all rest : List ℕ} → WritesUpTo before after all rest → WritesFront before after all
+pub front_written : {before after : Option (List ℕ)} {all rest : List ℕ} → WritesUpTo before after all rest
+    → WritesFront before after all
 front_written {rest = rest} w = record { part = w.part; rest = rest; whole = w.whole; adds = w.adds }
 
 -- writing stops within the next bytes
@@ -63,15 +66,18 @@ abbrev text_given : Settings → List ℕ → List Cut → List ℕ
 text_given settings text cuts = text_behind settings text (map cut_reading cuts)
 
 -- a line has its reply
-pub line_written : {before now : Option (List ℕ)} {all : List ℕ} (after : Option (List ℕ)) (settings same : Settings) (text next : List ℕ) (c : Cutting) (p : Cut × Cutting)
+pub line_written : {before now : Option (List ℕ)} {all : List ℕ} (after : Option (List ℕ)) (settings same : Settings)
+    (text next : List ℕ) (c : Cutting) (p : Cut × Cutting)
     → same ≡ settings → next_cut c ≡ Some p → WritesUpTo before now all (replies_given settings text (given c))
-    → after ≡ appended now (reply_text (reading_step same text (cut_reading p.0)).reply) → next ≡ (reading_step same text (cut_reading p.0)).text
+    → after ≡ appended now (reply_text (reading_step same text (cut_reading p.0)).reply) → next
+    ≡ (reading_step same text (cut_reading p.0)).text
     → WritesUpTo before after all (replies_given settings next (given p.1))
 line_written {before} {now} {all} after settings same text next c p s n w e t =
     let reply = λ (o : Settings). reply_text (reading_step o text (cut_reading p.0)).reply in
     let later = λ (o : Settings). (reading_step o text (cut_reading p.0)).text in
     let one = subst (λ cuts. WritesUpTo before now all (replies_given settings text cuts)) (given-next c p n) w in
-    let two = more_written (reply settings) (replies_given settings (later settings) (given p.1)) after one (e ∙ ap (λ o. appended now (reply o)) s) in
+    let two = more_written (reply settings) (replies_given settings (later settings) (given p.1)) after one
+    (e ∙ ap (λ o. appended now (reply o)) s) in
     subst (λ text. WritesUpTo before after all (replies_given settings text (given p.1))) (sym (t ∙ ap later s)) two
 
 pub text_after_line : (settings same : Settings) (text next : List ℕ) (c : Cutting) (p : Cut × Cutting)
@@ -81,7 +87,8 @@ text_after_line settings same text next c p s n t =
     ap (λ text. text_given settings text (given p.1)) (t ∙ ap (λ o. (reading_step o text (cut_reading p.0)).text) s)
     ∙ sym (ap (text_given settings text) (given-next c p n))
 
-pub line_cut_short : {before now after : Option (List ℕ)} {all : List ℕ} (settings same : Settings) (text : List ℕ) (c : Cutting) (p : Cut × Cutting)
+pub line_cut_short : {before now after : Option (List ℕ)} {all : List ℕ} (settings same : Settings) (text : List ℕ)
+    (c : Cutting) (p : Cut × Cutting)
     → same ≡ settings → next_cut c ≡ Some p → WritesUpTo before now all (replies_given settings text (given c))
     → WritesFront now after (reply_text (reading_step same text (cut_reading p.0)).reply) → WritesFront before after all
 line_cut_short {before} {now} {after} {all} settings same text c p s n w f =

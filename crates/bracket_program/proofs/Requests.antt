@@ -1,5 +1,6 @@
 -- Words that are no command line.
-use Rattle.std.proofs.Common.{◌≡◌, ◌<◌, ◌≤◌, ℕ, List, [], ◌∷◌, length, map, get_or, refl, ap, ◌∙◌, arith, Bool, true, false, ◌&&◌}
+use Rattle.std.proofs.Common.{◌≡◌, ◌<◌, ◌≤◌, ℕ, List, [], ◌∷◌, length, map, get_or, refl, ap, ◌∙◌, arith, Bool, true}
+use Rattle.std.proofs.Common.{false, ◌&&◌}
 use Rattle.std.specs.Prelude.{Option, Some, None, String, string_bytes, if◌then◌else◌}
 use Rattle.std.specs.declared.alloc.Global.{Global}
 use Rattle.session_defs.specs.Words.{Request, request_of, requested, is_nesting, value_of}
@@ -27,15 +28,18 @@ no_request-many (a ∷ b ∷ c ∷ []) h = absurd (omega arith)
 no_request-many (a ∷ b ∷ c ∷ d ∷ []) h = absurd (omega arith)
 no_request-many (a ∷ b ∷ c ∷ d ∷ e ∷ more) h = refl
 
-no_nesting : (plain option nesting : Bool) (n : ℕ) (name : List ℕ) → None ≡ (if nesting then Some n else None) → None ≡ requested (plain && (option && nesting)) name n
+no_nesting : (plain option nesting : Bool) (n : ℕ) (name : List ℕ) → None ≡ (if nesting then Some n else None) → None
+    ≡ requested (plain && (option && nesting)) name n
 no_nesting plain option true n name h = cc
 no_nesting true true false n name h = refl
 no_nesting true false false n name h = refl
 no_nesting false option false n name h = refl
 
 -- the fourth word is no nesting limit
-pub no_request-number : (words : List (String Global)) (number : String Global) (digits : List ℕ) → 4 ≤ length words → length words < 5
-    → number ≡ get_or words 3 number → digits ≡ string_bytes number → None ≡ (if is_nesting digits then Some (value_of digits) else None) → None ≡ requests words
+pub no_request-number : (words : List (String Global)) (number : String Global) (digits : List ℕ) → 4 ≤ length words
+    → length words < 5
+    → number ≡ get_or words 3 number → digits ≡ string_bytes number → None
+    ≡ (if is_nesting digits then Some (value_of digits) else None) → None ≡ requests words
 no_request-number [] number digits h k is d none = absurd (omega arith)
 no_request-number (a ∷ []) number digits h k is d none = absurd (omega arith)
 no_request-number (a ∷ b ∷ []) number digits h k is d none = absurd (omega arith)

@@ -1,5 +1,6 @@
 -- How answering a script goes on, and how it ends.
-use Rattle.std.proofs.Common.{◌≡◌, ℕ, ◌+◌, ◌≤◌, ◌<◌, List, [], ◌++◌, length, map, take, refl, sym, ap, subst, ◌∙◌, arith, append_assoc, append-nil, length-append, false, true}
+use Rattle.std.proofs.Common.{◌≡◌, ℕ, ◌+◌, ◌≤◌, ◌<◌, List, [], ◌++◌, length, map, take, refl, sym, ap, subst, ◌∙◌}
+use Rattle.std.proofs.Common.{arith, append_assoc, append-nil, length-append, false, true}
 use Rattle.std.specs.Prelude.{Some, None}
 use Rattle.std.proofs.lemmas.List.{length-take}
 use Rattle.text_defs.specs.Text.{whole_lines, unfinished}
@@ -12,17 +13,20 @@ use Rattle.script_words.specs.Script.{reading_of}
 use Rattle.session_defs.specs.Session.{replies_to, text_behind, opened}
 use Rattle.session_defs.specs.Output.{written_for, script_lines, line_if_any, most_script_bytes}
 use Rattle.bracket_program.specs.Lines.{cut_reading, given, last_of}
-use Rattle.bracket_program.specs.Ends.{Outside, Takes, WritesFront, WritesUpTo, IsDone, IsCut, IsFront, IsEnd, IsReplyEnd}
+use Rattle.bracket_program.specs.Ends.{Outside, Takes, WritesFront, WritesUpTo, IsDone, IsCut, IsFront, IsEnd}
+use Rattle.bracket_program.specs.Ends.{IsReplyEnd}
 use Rattle.bracket_program.specs.Serving.{Serving}
 use Rattle.bracket_program.specs.declared.status.Status.{Status}
 use Rattle.bracket_program.specs.declared.status.Status.TheVariants as status
 use Rattle.bracket_program.proofs.LineReadings.{readings_given-going, readings_given-ended, pending-left}
 use Rattle.bracket_program.proofs.Replying.{appended-appended, nothing_written, front_of_more, none_written}
-use Rattle.bracket_program.proofs.Scripts.{nothing_rest, taken_of, takes-nothing, takes-more, gives-takes, gives-end, takes-end, written_for-append, text_behind-lines, script_lines-append}
+use Rattle.bracket_program.proofs.Scripts.{nothing_rest, taken_of, takes-nothing, takes-more, gives-takes, gives-end}
+use Rattle.bracket_program.proofs.Scripts.{takes-end, written_for-append, text_behind-lines, script_lines-append}
 
 -- the open reply is written, and nothing was taken
 pub serving-start : (before now : Outside) (settings : Settings) (text : List ℕ) (cutter : Cutting)
-    → now.left ≡ before.left → now.held ≡ appended before.held (reply_text (opened text)) → now.reads ≡ before.reads → now.writes ≡ before.writes
+    → now.left ≡ before.left → now.held ≡ appended before.held (reply_text (opened text)) → now.reads ≡ before.reads
+    → now.writes ≡ before.writes
     → cutter.cuts ≡ cuts_of [] → cutter.ended ≡ false → Serving before now settings text text cutter 0
 serving-start before now settings text cutter l h r w c e = record {
   script = [];
@@ -37,7 +41,8 @@ serving-start before now settings text cutter l h r w c e = record {
 }
 
 -- what a read, a feeding and replies to all whole lines do
-pub record More (now after : Outside) (same : Settings) (text next : List ℕ) (cutter fed left : Cutting) (n : ℕ) (into : List ℕ) : Type 0 where
+pub record More (now after : Outside) (same : Settings) (text next : List ℕ) (cutter fed left : Cutting) (n : ℕ)
+    (into : List ℕ) : Type 0 where
   pub fits : n ≤ length into
   pub gives : GivesFront now.left after.left n into
   pub feeds : (bytes : List ℕ) → cutter.cuts ≡ cuts_of bytes → fed.cuts ≡ cuts_of (bytes ++ take n into)
@@ -50,8 +55,10 @@ pub record More (now after : Outside) (same : Settings) (text next : List ℕ) (
   pub reads_stand : after.reads ≡ now.reads
   pub writes_stand : after.writes ≡ now.writes
 
-pub serving-more : {before now after : Outside} {settings : Settings} {first text : List ℕ} {cutter : Cutting} {taken : ℕ} (same : Settings) (next : List ℕ) (fed left : Cutting) (n : ℕ) (into : List ℕ)
-    → same ≡ settings → Serving before now settings first text cutter taken → More now after same text next cutter fed left n into
+pub serving-more : {before now after : Outside} {settings : Settings} {first text : List ℕ} {cutter : Cutting}
+    {taken : ℕ} (same : Settings) (next : List ℕ) (fed left : Cutting) (n : ℕ) (into : List ℕ)
+    → same ≡ settings → Serving before now settings first text cutter taken
+    → More now after same text next cutter fed left n into
     → Serving before after settings first next left (taken + n)
 serving-more {before} {now} {after} {settings} {first} {text} {cutter} {taken} same next fed left n into o s m =
     let piece = take n into in
@@ -62,10 +69,12 @@ serving-more {before} {now} {after} {settings} {first} {text} {cutter} {taken} s
     record {
       script = s.script ++ piece;
       count = omega (arith, length-append s.script piece, length-take n into, s.count, m.fits);
-      takes = takes-more before.left now.left after.left s.script piece s.takes (gives-takes now.left after.left n into m.gives);
+      takes = takes-more before.left now.left after.left s.script piece s.takes
+          (gives-takes now.left after.left n into m.gives);
       writes = m.writes
           ∙ (ap (λ h. appended h (replies_to same text (map cut_reading (given fed)))) s.writes
-          ∙ (appended-appended before.held (written_for settings first (whole_lines s.script)) (replies_to same text (map cut_reading (given fed)))
+          ∙ (appended-appended before.held (written_for settings first (whole_lines s.script))
+          (replies_to same text (map cut_reading (given fed)))
           ∙ ap (appended before.held)
           (ap (λ later. written_for settings first (whole_lines s.script) ++ later)
           (ap (λ p. replies_to p text (map cut_reading (given fed))) o
@@ -86,11 +95,15 @@ serving-more {before} {now} {after} {settings} {first} {text} {cutter} {taken} s
     }
 
 -- the script ends, and its last line has its reply
-pub serving-done : {before now after : Outside} {settings : Settings} {first text : List ℕ} {cutter : Cutting} {taken : ℕ} (same : Settings) (last : Cutting) (n : ℕ) (into : List ℕ)
-    → same ≡ settings → Serving before now settings first text cutter taken → taken < most_script_bytes → n ≡ 0 → GivesFront now.left after.left n into
-    → last.cuts ≡ cutter.cuts → last.ended ≡ true → after.held ≡ appended now.held (replies_to same text (map cut_reading (given last)))
+pub serving-done : {before now after : Outside} {settings : Settings} {first text : List ℕ} {cutter : Cutting}
+    {taken : ℕ} (same : Settings) (last : Cutting) (n : ℕ) (into : List ℕ)
+    → same ≡ settings → Serving before now settings first text cutter taken → taken < most_script_bytes → n ≡ 0
+    → GivesFront now.left after.left n into
+    → last.cuts ≡ cutter.cuts → last.ended ≡ true → after.held
+    ≡ appended now.held (replies_to same text (map cut_reading (given last)))
     → after.reads ≡ now.reads → after.writes ≡ now.writes → IsDone before after settings first
-serving-done {before} {now} {after} {settings} {first} {text} {cutter} {taken} same last n into o s short z g c e w r f =
+serving-done {before} {now} {after} {settings} {first} {text} {cutter} {taken} same last n into o s short z g c e w r
+    f =
     let readings = readings_given-ended last.cuts last.ended s.script (c ∙ s.pending) e in
     let lines = line_if_any (unfinished s.script) in
     record {
@@ -100,7 +113,8 @@ serving-done {before} {now} {after} {settings} {first} {text} {cutter} {taken} s
       short = subst (λ k. k < most_script_bytes) (sym s.count) short;
       writes = w
           ∙ (ap (λ h. appended h (replies_to same text (map cut_reading (given last)))) s.writes
-          ∙ (appended-appended before.held (written_for settings first (whole_lines s.script)) (replies_to same text (map cut_reading (given last)))
+          ∙ (appended-appended before.held (written_for settings first (whole_lines s.script))
+          (replies_to same text (map cut_reading (given last)))
           ∙ ap (appended before.held)
           (ap (λ later. written_for settings first (whole_lines s.script) ++ later)
           (ap (λ p. replies_to p text (map cut_reading (given last))) o
@@ -112,8 +126,10 @@ serving-done {before} {now} {after} {settings} {first} {text} {cutter} {taken} s
     }
 
 -- some was taken, and each whole line of it has its reply
-abbrev pub serving-cut : {before now after : Outside} {settings : Settings} {first text : List ℕ} {cutter : Cutting} {taken : ℕ}
-    → Serving before now settings first text cutter taken → taken ≤ most_script_bytes → after.left ≡ now.left → after.held ≡ now.held → after.writes ≡ now.writes
+abbrev pub serving-cut : {before now after : Outside} {settings : Settings} {first text : List ℕ} {cutter : Cutting}
+    {taken : ℕ}
+    → Serving before now settings first text cutter taken → taken ≤ most_script_bytes → after.left ≡ now.left
+    → after.held ≡ now.held → after.writes ≡ now.writes
     → IsCut before after settings first
 serving-cut {before} s m l h w = record {
   script = s.script;
@@ -124,28 +140,35 @@ serving-cut {before} s m l h w = record {
 }
 
 -- where a front of the replies to the next lines was added, what was written is a front of all
-front-of : {before now : Outside} (after : Outside) {settings : Settings} {first text : List ℕ} {cutter : Cutting} {taken : ℕ} (s : Serving before now settings first text cutter taken) (lines : List (List ℕ))
-    → ((bytes : List ℕ) → before.left ≡ Some bytes → (more : List (List ℕ)) × (script_lines bytes ≡ whole_lines s.script ++ (lines ++ more)))
-    → WritesFront now.held after.held (replies_to settings text (map reading_of lines)) → IsFront before after settings first
+front-of : {before now : Outside} (after : Outside) {settings : Settings} {first text : List ℕ} {cutter : Cutting}
+    {taken : ℕ} (s : Serving before now settings first text cutter taken) (lines : List (List ℕ))
+    → ((bytes : List ℕ) → before.left ≡ Some bytes → (more : List (List ℕ))
+    × (script_lines bytes ≡ whole_lines s.script ++ (lines ++ more)))
+    → WritesFront now.held after.held (replies_to settings text (map reading_of lines))
+    → IsFront before after settings first
 front-of {before} {now} after {settings} {first} {text} s lines h f = record {
   front = λ bytes told.
       let more = h bytes told in
       let start = written_for settings first (whole_lines s.script) in
       let next = replies_to settings text (map reading_of lines) in
-      let later = replies_to settings (text_behind settings first (map reading_of (whole_lines s.script ++ lines))) (map reading_of more.0) in
+      let later = replies_to settings (text_behind settings first (map reading_of (whole_lines s.script ++ lines)))
+      (map reading_of more.0) in
       let two : written_for settings first (whole_lines s.script ++ lines) ≡ start ++ next =
-      written_for-append settings first (whole_lines s.script) lines ∙ ap (λ t. start ++ replies_to settings t (map reading_of lines)) (sym s.answers) in
+      written_for-append settings first (whole_lines s.script) lines
+      ∙ ap (λ t. start ++ replies_to settings t (map reading_of lines)) (sym s.answers) in
       let all : start ++ (next ++ later) ≡ written_for settings first (script_lines bytes) =
       sym (append_assoc start next later)
       ∙ (ap (λ front. front ++ later) (sym two)
       ∙ (sym (written_for-append settings first (whole_lines s.script ++ lines) more.0)
       ∙ ap (written_for settings first) (append_assoc (whole_lines s.script) lines more.0 ∙ sym more.1))) in
-      let begun : WritesUpTo before.held now.held (written_for settings first (script_lines bytes)) (next ++ later) = record { part = start; whole = all; adds = s.writes } in
+      let begun : WritesUpTo before.held now.held (written_for settings first (script_lines bytes)) (next ++ later) =
+      record { part = start; whole = all; adds = s.writes } in
       front_of_more later begun f;
 }
 
 -- nothing more was written
-pub front-at : {before now : Outside} (after : Outside) {settings : Settings} {first text : List ℕ} {cutter : Cutting} {taken : ℕ}
+pub front-at : {before now : Outside} (after : Outside) {settings : Settings} {first text : List ℕ} {cutter : Cutting}
+    {taken : ℕ}
     → Serving before now settings first text cutter taken → after.held ≡ now.held → IsFront before after settings first
 front-at {before} {now} after {settings} {first} {text} s h =
     front-of after s []
@@ -154,38 +177,54 @@ front-at {before} {now} after {settings} {first} {text} s h =
     (subst (λ held. WritesFront now.held held []) (sym h) (nothing_written now.held []))
 
 -- the replies to the whole lines of the next piece were cut short
-pub front-more : {before now : Outside} (after : Outside) {settings : Settings} {first text : List ℕ} {cutter : Cutting} {taken : ℕ} (same : Settings) (fed : Cutting) (n : ℕ) (into : List ℕ)
+pub front-more : {before now : Outside} (after : Outside) {settings : Settings} {first text : List ℕ}
+    {cutter : Cutting} {taken : ℕ} (same : Settings) (fed : Cutting) (n : ℕ) (into : List ℕ)
     → same ≡ settings → Serving before now settings first text cutter taken → GivesFront now.left after.left n into
     → ((bytes : List ℕ) → cutter.cuts ≡ cuts_of bytes → fed.cuts ≡ cuts_of (bytes ++ take n into)) → fed.ended ≡ false
-    → WritesFront now.held after.held (replies_to same text (map cut_reading (given fed))) → IsFront before after settings first
+    → WritesFront now.held after.held (replies_to same text (map cut_reading (given fed)))
+    → IsFront before after settings first
 front-more {before} {now} after {settings} {first} {text} same fed n into o s g feeds going f =
     let piece = take n into in
     let last = unfinished s.script ++ piece in
     let readings = readings_given-going fed.cuts fed.ended last (feeds (unfinished s.script) s.pending) going in
     front-of after s (whole_lines last)
-    (λ bytes told. let r = taken_of bytes (s.script ++ piece) before.left after.left told (takes-more before.left now.left after.left s.script piece s.takes (gives-takes now.left after.left n into g)) in (
+    (λ bytes told. let r = taken_of bytes (s.script ++ piece) before.left after.left told
+    (takes-more before.left now.left after.left s.script piece s.takes
+    (gives-takes now.left after.left n into g)) in (
       script_lines (unfinished last ++ r.0),
       ap script_lines (r.1 ∙ append_assoc s.script piece r.0)
           ∙ (script_lines-append s.script (piece ++ r.0)
-          ∙ ap (λ lines. whole_lines s.script ++ lines) (ap script_lines (sym (append_assoc (unfinished s.script) piece r.0)) ∙ script_lines-append last r.0)),
+          ∙ ap (λ lines. whole_lines s.script ++ lines)
+          (ap script_lines (sym (append_assoc (unfinished s.script) piece r.0)) ∙ script_lines-append last r.0)),
     ))
-    (subst (λ all. WritesFront now.held after.held all) (ap (λ p. replies_to p text (map cut_reading (given fed))) o ∙ ap (replies_to settings text) readings) f)
+    (subst (λ all. WritesFront now.held after.held all)
+    (ap (λ p. replies_to p text (map cut_reading (given fed))) o ∙ ap (replies_to settings text) readings) f)
 
 -- the reply to the last line was cut short
-pub front-last : {before now : Outside} (after : Outside) {settings : Settings} {first text : List ℕ} {cutter : Cutting} {taken : ℕ} (same : Settings) (last : Cutting) (n : ℕ) (into : List ℕ)
-    → same ≡ settings → Serving before now settings first text cutter taken → n ≡ 0 → GivesFront now.left after.left n into
+pub front-last : {before now : Outside} (after : Outside) {settings : Settings} {first text : List ℕ}
+    {cutter : Cutting} {taken : ℕ} (same : Settings) (last : Cutting) (n : ℕ) (into : List ℕ)
+    → same ≡ settings → Serving before now settings first text cutter taken → n ≡ 0
+    → GivesFront now.left after.left n into
     → last.cuts ≡ cutter.cuts → last.ended ≡ true
-    → WritesFront now.held after.held (replies_to same text (map cut_reading (given last))) → IsFront before after settings first
+    → WritesFront now.held after.held (replies_to same text (map cut_reading (given last)))
+    → IsFront before after settings first
 front-last {before} {now} after {settings} {first} {text} same last n into o s z g c e f =
     let readings = readings_given-ended last.cuts last.ended s.script (c ∙ s.pending) e in
     let lines = line_if_any (unfinished s.script) in
     front-of after s lines
-    (λ bytes told. let r = taken_of bytes s.script before.left after.left told (takes-end before.left now.left after.left s.script n into z g s.takes) in
-    ([], ap script_lines (r.1 ∙ (ap (λ rest. s.script ++ rest) (nothing_rest after.left r.0 r.2 (gives-end now.left after.left n into z g)) ∙ append-nil s.script)) ∙ ap (λ ls. whole_lines s.script ++ ls) (sym (append-nil lines))))
-    (subst (λ all. WritesFront now.held after.held all) (ap (λ p. replies_to p text (map cut_reading (given last))) o ∙ ap (replies_to settings text) readings) f)
+    (λ bytes told. let r = taken_of bytes s.script before.left after.left told
+    (takes-end before.left now.left after.left s.script n into z g s.takes) in (
+      [],
+      ap script_lines (r.1 ∙ (ap (λ rest. s.script ++ rest)
+          (nothing_rest after.left r.0 r.2 (gives-end now.left after.left n into z g)) ∙ append-nil s.script))
+          ∙ ap (λ ls. whole_lines s.script ++ ls) (sym (append-nil lines)),
+    ))
+    (subst (λ all. WritesFront now.held after.held all)
+    (ap (λ p. replies_to p text (map cut_reading (given last))) o ∙ ap (replies_to settings text) readings) f)
 
 -- an end at a reply is an end of the run
-pub reply-end : (before after : Outside) (settings : Settings) (text : List ℕ) (writes : ℕ) (e : Status) → writes ≡ before.writes → after.reads ≡ before.reads
+pub reply-end : (before after : Outside) (settings : Settings) (text : List ℕ) (writes : ℕ) (e : Status) → writes
+    ≡ before.writes → after.reads ≡ before.reads
     → IsReplyEnd writes after.writes e → IsFront before after settings text → IsEnd before after settings text e
 reply-end before after settings text writes status.WriteFault w r i f = (f, subst (λ k. risen k ≤ after.writes) w i, r)
 reply-end before after settings text writes status.Memory w r i f = (f, i ∙ w, r)
@@ -196,14 +235,18 @@ reply-end before after settings text writes status.ReadFault w r i f = absurd i
 reply-end before after settings text writes status.ScriptFull w r i f = absurd i
 
 -- nothing was written before the open reply; of that a front
-pub front-opened : (before after : Outside) (settings : Settings) (text : List ℕ) → WritesFront before.held after.held (reply_text (opened text)) → IsFront before after settings text
+pub front-opened : (before after : Outside) (settings : Settings) (text : List ℕ)
+    → WritesFront before.held after.held (reply_text (opened text)) → IsFront before after settings text
 front-opened before after settings text f = record {
   front = λ script told.
-      front_of_more (replies_to settings text (map reading_of (script_lines script))) (none_written before.held (written_for settings text (script_lines script))) f;
+      front_of_more (replies_to settings text (map reading_of (script_lines script)))
+      (none_written before.held (written_for settings text (script_lines script))) f;
 }
 
-pub front-nothing : (before after : Outside) (settings : Settings) (text : List ℕ) → after.held ≡ before.held → IsFront before after settings text
+pub front-nothing : (before after : Outside) (settings : Settings) (text : List ℕ) → after.held ≡ before.held
+    → IsFront before after settings text
 front-nothing before after settings text h = record {
   front = λ script told.
-      subst (λ held. WritesFront before.held held (written_for settings text (script_lines script))) (sym h) (nothing_written before.held (written_for settings text (script_lines script)));
+      subst (λ held. WritesFront before.held held (written_for settings text (script_lines script))) (sym h)
+      (nothing_written before.held (written_for settings text (script_lines script)));
 }

@@ -298,6 +298,21 @@ fn check_run(
     Ok(())
 }
 
+/// Runs a script over a file that isn't accepted: nothing is written.
+fn check_refused(rt: &impl Abort, alloc: Global, text: &[u8]) -> Result<(), AllocError> {
+    let case = Case {
+        words: &["text"],
+        text: Some(text),
+        script: b"{\"line\":0}\n",
+        wrote: b"",
+        status: Status::TextFile,
+    };
+    let (status, sink) = run_case(alloc, &case, &[], &[])?;
+    assert_eq!(rt; status, Status::TextFile);
+    assert_eq!(rt; sink.bytes(), b"".as_slice());
+    Ok(())
+}
+
 #[test]
 fn long_lines_have_no_brackets(rt: HostRuntime) -> Result<(), Fail> {
     let line = repeated(rt.alloc(), b"(", b"a", 19_998, b"\n)")?;
@@ -336,6 +351,10 @@ fn texts_have_at_most_so_many_lines(rt: HostRuntime) -> Result<(), Fail> {
     )?;
     let most = repeated(rt.alloc(), edit, b"\\n", 262_143, b"\"]]}\n")?;
     check_run(&rt, rt.alloc(), b"", &most, "1", "{\"edited\":262144}\n")?;
+    let largest = repeated(rt.alloc(), b"", b"\n", 262_143, b"")?;
+    check_run(&rt, rt.alloc(), &largest, b"", "262144", "")?;
+    let larger = repeated(rt.alloc(), b"", b"\n", 262_144, b"")?;
+    check_refused(&rt, rt.alloc(), &larger)?;
     Ok(())
 }
 
@@ -352,16 +371,29 @@ fn texts_have_at_most_so_many_characters(rt: HostRuntime) -> Result<(), Fail> {
         "{\"refused\":\"chars\"}\n",
     )?;
     let more = repeated(rt.alloc(), b"", b"a", 4_194_305, b"")?;
-    let case = Case {
-        words: &["text"],
-        text: Some(&more),
-        script,
-        wrote: b"",
-        status: Status::TextFile,
-    };
-    let (status, sink) = run_case(rt.alloc(), &case, &[], &[])?;
-    assert_eq!(rt; status, Status::TextFile);
-    assert_eq!(rt; sink.bytes(), b"".as_slice());
+    check_refused(&rt, rt.alloc(), &more)?;
+    Ok(())
+}
+
+/// Its text would fit: a U+FEFF that falls away, and 2^22 characters of four bytes, less two, and more bytes.
+#[test]
+fn files_have_at_most_so_many_bytes(rt: HostRuntime) -> Result<(), Fail> {
+    let most = repeated(
+        rt.alloc(),
+        b"\xef\xbb\xbf",
+        b"\xf0\x9f\x98\x80",
+        4_194_303,
+        b"a",
+    )?;
+    check_run(&rt, rt.alloc(), &most, b"", "1", "")?;
+    let more = repeated(
+        rt.alloc(),
+        b"\xef\xbb\xbf",
+        b"\xf0\x9f\x98\x80",
+        4_194_303,
+        b"\xc3\xa9",
+    )?;
+    check_refused(&rt, rt.alloc(), &more)?;
     Ok(())
 }
 

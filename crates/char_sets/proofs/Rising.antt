@@ -52,7 +52,7 @@ in_set-before n (r ∷ rs) c h lt =
     rw (in_range-below c r (omega arith)) (in_set-before (r.last + 1) rs c parts.rest (omega arith))
 
 -- each range ends at the first place or after it
-last-above : (n : ℕ) (rs : List CharRange) (k : ℕ) (d : CharRange) → rises n rs ≡ true → k < length rs → n ≤ (get_or rs k d).last
+pub last-above : (n : ℕ) (rs : List CharRange) (k : ℕ) (d : CharRange) → rises n rs ≡ true → k < length rs → n ≤ (get_or rs k d).last
 last-above n [] k d h lt = absurd (not-suc-le-zero lt)
 last-above n (r ∷ rs) zero d h lt =
     let parts = rises-parts n r rs h in

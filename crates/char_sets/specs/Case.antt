@@ -1,5 +1,5 @@
 -- Letters in both cases. Case is that of ASCII alone.
-use Rattle.std.specs.Prelude.{ℕ, ◌+◌, ◌-◌, Bool, ◌||◌, ◌&&◌, nat_le, List, if◌then◌else◌}
+use Rattle.std.specs.Prelude.{ℕ, ◌+◌, ◌-◌, Bool, ◌||◌, ◌&&◌, not, nat_le, List, if◌then◌else◌}
 use Rattle.char_sets.specs.Ranges.{in_set}
 use Rattle.char_sets.specs.declared.char_set.CharRange.{CharRange}
 
@@ -14,3 +14,7 @@ other_case c = if is_from_to 65 90 c then c + 32 else if is_from_to 97 122 c the
 -- the character, or its other ASCII case, is in one of the ranges
 abbrev pub in_either_case : List CharRange → ℕ → Bool
 in_either_case ranges c = in_set ranges c || in_set ranges (other_case c)
+
+-- the character isn't in the ranges, and its other ASCII case is
+abbrev pub is_missing : List CharRange → ℕ → Bool
+is_missing ranges c = in_set ranges (other_case c) && not (in_set ranges c)

@@ -1,6 +1,6 @@
 -- Sets of characters that have names, by the general categories of Unicode. Which categories each has is this
 -- project's own.
-use Rattle.std.specs.Prelude.{ℕ, Bool, not, ◌&&◌, ◌||◌, ◌==◌, nat_lt, codes}
+use Rattle.std.specs.Prelude.{ℕ, Bool, true, false, not, ◌&&◌, ◌||◌, ◌==◌, nat_lt, codes}
 use Rattle.std.specs.List.{list_any}
 use Rattle.std.specs.Int.{bit_at}
 use Rattle.unicode.specs.GeneralCategory.{general_category, general_category_eq}
@@ -63,3 +63,8 @@ has_number numbers n = nat_lt n 32 && (bit_at numbers n == 1)
 -- the number of the category is one of those whose bits are set
 abbrev pub has_category : ℕ → GeneralCategory → Bool
 has_category numbers g = has_number numbers (general_category_number g)
+
+-- the members of a named set or, where `negated`, of its complement
+abbrev pub in_named_if : (negated : Bool) → NamedSet → ℕ → Bool
+in_named_if true name c = not (in_named name c)
+in_named_if false name c = in_named name c

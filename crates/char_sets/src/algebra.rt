@@ -1,10 +1,11 @@
-ghost use Rattle.std.specs.Prelude.{◌≡◌, ◌≤◌, ◌<◌, ◌+◌, ℕ, Bool, true, false, ◌&&◌, ◌||◌, not, length, nat_le, IfOk};
-ghost use Rattle.char_sets.specs.Ranges.{in_set, rises, IsSetOf};
-ghost use Rattle.char_sets.specs.Case.{other_case, in_either_case};
+ghost use Rattle.std.specs.Prelude.{◌≡◌, ◌<◌, ℕ, Bool, true, ◌&&◌, ◌||◌, not, IfOk};
+ghost use Rattle.std.specs.Int.{bit_at};
+ghost use Rattle.char_sets.specs.Ranges.{bit, in_set, rises, IsSetOf};
+ghost use Rattle.char_sets.specs.Case.{other_case, in_either_case, is_missing};
 ghost use Rattle.char_sets.specs.Keep.{kept};
 
 use crate::char_set::{CharRange, CharSet};
-use crate::stretch::{END, Stretch, close, has_code, stretch_at};
+use crate::stretch::{END, close, place_behind, stretch_from};
 use std::alloc::{AllocError, Global};
 
 /// What a set made of two has.
@@ -25,63 +26,70 @@ impl Keep {
             Keep::FirstAlone => first & !second,
         }
     }
-}
 
-/// The ranges of all characters.
-const ALL: [CharRange; 1] = [CharRange {
-    first: 0,
-    last: 0x10_FFFF,
-}];
-
-/// From the code on: how far all codes are in the set made of two, or none is.
-fn joined_at(a: &[CharRange], b: &[CharRange], keep: Keep, code: u32) -> Stretch
-    requires first { rises 0 a.now ≡ true }
-    requires second { rises 0 b.now ≡ true }
-    requires within { code < 1_114_112 }
-    ensures all { (c : ℕ) → code ≤ c → c < result.end → kept keep (in_set a.now c) (in_set b.now c) ≡ result.has }
-    ensures further { code < result.end }
-    ensures end { result.end ≤ 1_114_112 }
-{
-    let in_a = stretch_at(a, code);
-    let in_b = stretch_at(b, code);
-    Stretch {
-        has: keep.holds(in_a.has, in_b.has),
-        end: in_a.end.min(in_b.end),
+    /// The same of 64 codes at once, a bit for each.
+    fn bits(self, first: u64, second: u64) -> u64
+        ensures { (k : ℕ) (a b : Bool) → k < 64 → bit_at first k ≡ bit a → bit_at second k ≡ bit b
+            → bit_at result k ≡ bit (kept self a b) }
+    {
+        match self {
+            Keep::Either => first | second,
+            Keep::Both => first & second,
+            Keep::FirstAlone => first & !second,
+        }
     }
 }
 
-/// The set made of two. It goes over the codes from one stretch to the next; `start` is where the range that isn't
-/// yet written began.
-pub(crate) fn joined(
+/// The ranges of the set made of two. It goes over the codes from one stretch to the next; `start` is where the range
+/// that isn't yet written began, and `in_a` and `in_b` are the ranges of each set that end at the present code or
+/// after it.
+fn merged(
     alloc: Global,
     a: &[CharRange],
     b: &[CharRange],
     keep: Keep,
-) -> Result<CharSet, AllocError>
+) -> Result<Vec<CharRange>, AllocError>
     requires first { rises 0 a.now ≡ true }
     requires second { rises 0 b.now ≡ true }
-    ensures { IfOk result (λ s. IsSetOf s (λ c. kept keep (in_set a.now c) (in_set b.now c))) }
+    ensures rising { IfOk result (λ ranges. rises 0 ranges.items ≡ true) }
+    ensures members { IfOk result (λ ranges. IsSetOf ranges.items (λ c. kept keep (in_set a.now c) (in_set b.now c))) }
 {
     let mut ranges = Vec::new(alloc);
     let mut start = 0;
     let mut at = 0;
+    let mut in_a = 0;
+    let mut in_b = 0;
     while at < END {
-        let next = joined_at(a, b, keep, at);
-        if !next.has {
+        let first = stretch_from(a, in_a, at);
+        let second = stretch_from(b, in_b, at);
+        let end = first.end.min(second.end);
+        if !keep.holds(first.has, second.has) {
             close(&mut ranges, start, at)?;
-            start = next.end;
+            start = end;
         }
-        at = next.end;
+        in_a = place_behind(a, in_a, end);
+        in_b = place_behind(b, in_b, end);
+        at = end;
     }
     close(&mut ranges, start, at)?;
-    Ok(CharSet::of_ranges(ranges))
+    Ok(ranges)
+}
+
+/// The set made of two.
+fn joined(alloc: Global, a: &CharSet, b: &CharSet, keep: Keep) -> Result<CharSet, AllocError>
+    ensures { IfOk result (λ s. IsSetOf s (λ c. kept keep (in_set a.now c) (in_set b.now c))) }
+{
+    let ranges = merged(alloc, a.ranges(), b.ranges(), keep)?;
+    let low = keep.bits(a.low(), b.low());
+    let high = keep.bits(a.high(), b.high());
+    CharSet::of_parts(low, high, ranges)
 }
 
 /// The other ASCII case of a letter, and any other code itself.
 fn in_other_case(code: u32) -> u32
-    requires { code < 1_114_112 }
+    requires { code < 128 }
     ensures value { result ≡ other_case code }
-    ensures within { result < 1_114_112 }
+    ensures within { result < 128 }
 {
     match code {
         65..=90 => code + 32,
@@ -90,16 +98,22 @@ fn in_other_case(code: u32) -> u32
     }
 }
 
-/// The ASCII characters whose other case is in the ranges, a range for each.
-fn in_other_case_of(alloc: Global, ranges: &[CharRange]) -> Result<Vec<CharRange>, AllocError>
-    requires { rises 0 ranges.now ≡ true }
+/// Whether the character with this code isn't in the set, and its other ASCII case is.
+fn is_missing(set: &CharSet, code: u32) -> bool
+    requires { code < 123 }
+    ensures { result ≡ is_missing set.now code }
+{
+    set.has_ascii(in_other_case(code)) && !set.has_ascii(code)
+}
+
+/// The ASCII letters whose other case is in the set and that are not in it themselves, a range for each.
+fn in_other_case_of(alloc: Global, set: &CharSet) -> Result<Vec<CharRange>, AllocError>
     ensures rising { IfOk result (λ out. rises 0 out.items ≡ true) }
-    ensures ascii { IfOk result (λ out. (c : ℕ) → c < 128 → in_set out.items c ≡ in_set ranges.now (other_case c)) }
-    ensures others { IfOk result (λ out. (c : ℕ) → 128 ≤ c → in_set out.items c ≡ false) }
+    ensures members { IfOk result (λ out. IsSetOf out.items (is_missing set.now)) }
 {
     let mut out = Vec::new(alloc);
-    for code in 0..128 {
-        if has_code(ranges, in_other_case(code)) {
+    for code in 65..123 {
+        if is_missing(set, code) {
             out.push(CharRange {
                 first: code,
                 last: code,
@@ -114,35 +128,38 @@ impl CharSet {
     pub fn union(&self, alloc: Global, other: &CharSet) -> Result<CharSet, AllocError>
         ensures { IfOk result (λ s. IsSetOf s (λ c. in_set self.now c || in_set other.now c)) }
     {
-        joined(alloc, self.ranges(), other.ranges(), Keep::Either)
+        joined(alloc, self, other, Keep::Either)
     }
 
     /// The characters of both sets.
     pub fn meet(&self, alloc: Global, other: &CharSet) -> Result<CharSet, AllocError>
         ensures { IfOk result (λ s. IsSetOf s (λ c. in_set self.now c && in_set other.now c)) }
     {
-        joined(alloc, self.ranges(), other.ranges(), Keep::Both)
+        joined(alloc, self, other, Keep::Both)
     }
 
     /// The characters of this set that the other hasn't.
     pub fn without(&self, alloc: Global, other: &CharSet) -> Result<CharSet, AllocError>
         ensures { IfOk result (λ s. IsSetOf s (λ c. in_set self.now c && not (in_set other.now c))) }
     {
-        joined(alloc, self.ranges(), other.ranges(), Keep::FirstAlone)
+        joined(alloc, self, other, Keep::FirstAlone)
     }
 
     /// All characters that aren't in the set.
     pub fn complement(&self, alloc: Global) -> Result<CharSet, AllocError>
         ensures { IfOk result (λ s. IsSetOf s (λ c. not (in_set self.now c))) }
     {
-        joined(alloc, &ALL, self.ranges(), Keep::FirstAlone)
+        joined(alloc, &CharSet::all(), self, Keep::FirstAlone)
     }
 
     /// The set, and with each ASCII letter in it the same letter in the other case.
     pub fn with_other_case(&self, alloc: Global) -> Result<CharSet, AllocError>
         ensures { IfOk result (λ s. IsSetOf s (in_either_case self.now)) }
     {
-        let letters = in_other_case_of(alloc, self.ranges())?;
-        joined(alloc, self.ranges(), &letters, Keep::Either)
+        let letters = in_other_case_of(alloc, self)?;
+        if letters.is_empty() {
+            return self.copy(alloc);
+        }
+        self.union(alloc, &CharSet::of_ranges(letters)?)
     }
 }

@@ -7,7 +7,6 @@ ghost use Rattle.unicode.specs.GeneralCategoryGroup.{in_group};
 ghost use Rattle.char_sets.specs.declared.named.NamedSet.TheVariants as NamedSet;
 ghost use Rattle.char_sets.specs.Named.{is_word, is_ascii_symbol, in_named, has_number, has_category};
 
-use crate::algebra::{Keep, joined};
 use crate::char_set::{CharRange, CharSet};
 use crate::codes::{ASCII, ASCII_SYMBOLS, TAB, XDIGITS};
 use crate::stretch::close;
@@ -107,7 +106,7 @@ fn of_runs(alloc: Global, runs: &[u32], numbers: u32) -> Result<CharSet, AllocEr
         at = end;
     }
     close(&mut ranges, start, at)?;
-    Ok(CharSet::of_ranges(ranges))
+    CharSet::of_ranges(ranges)
 }
 
 /// The characters whose general category has a number whose bit is set.
@@ -122,7 +121,7 @@ fn of_codes(alloc: Global, ranges: &[CharRange]) -> Result<CharSet, AllocError>
     requires { rises 0 ranges.now ≡ true }
     ensures { IfOk result (λ s. s ≡ ranges.now) }
 {
-    Ok(CharSet::of_ranges(Vec::from_slice(alloc, ranges)?))
+    CharSet::of_ranges(Vec::from_slice(alloc, ranges)?)
 }
 
 impl NamedSet {
@@ -213,7 +212,7 @@ fn of_group(alloc: Global, group: GeneralCategoryGroup) -> Result<CharSet, Alloc
 }
 
 /// The numbers of the categories in a group.
-fn numbers_of(group: GeneralCategoryGroup) -> u32
+pub(crate) fn numbers_of(group: GeneralCategoryGroup) -> u32
     ensures { (k : GeneralCategory) → has_category result k ≡ in_group group k }
 {
     match group {
@@ -232,14 +231,14 @@ fn blank(alloc: Global) -> Result<CharSet, AllocError>
     ensures { IfOk result (λ s. IsSetOf s (in_named NamedSet.Blank)) }
 {
     let separators = of_categories(alloc, SPACE_SEPARATOR)?;
-    joined(alloc, separators.ranges(), &TAB, Keep::Either)
+    separators.union(alloc, &of_codes(alloc, &TAB)?)
 }
 
 fn punct(alloc: Global) -> Result<CharSet, AllocError>
     ensures { IfOk result (λ s. IsSetOf s (in_named NamedSet.Punct)) }
 {
     let punctuation = of_categories(alloc, PUNCTUATION)?;
-    joined(alloc, punctuation.ranges(), &ASCII_SYMBOLS, Keep::Either)
+    punctuation.union(alloc, &of_codes(alloc, &ASCII_SYMBOLS)?)
 }
 
 fn graph(alloc: Global) -> Result<CharSet, AllocError>

@@ -1,6 +1,6 @@
-ghost use Rattle.std.specs.Prelude.{◌≡◌, ◌≤◌, ◌<◌, ℕ, true, length, drop, slice_index_or, OnOk};
+ghost use Rattle.std.specs.Prelude.{◌≡◌, ◌≤◌, ◌<◌, ℕ, true, OnOk};
+ghost use Rattle.char_sets.specs.Places.{IsReached, IsNear};
 ghost use Rattle.char_sets.specs.Ranges.{in_set, rises, closed};
-ghost use Rattle.char_sets.specs.declared.char_set.CharRange.{CharRange};
 
 use crate::char_set::CharRange;
 use std::alloc::AllocError;
@@ -18,9 +18,7 @@ pub(crate) struct Stretch {
 /// The place of the first range that ends at the code or after it, found by halves.
 fn first_reaching(ranges: &[CharRange], code: u32) -> usize
     requires { rises 0 ranges.now ≡ true }
-    ensures within { result ≤ length ranges.now }
-    ensures before { (c : ℕ) → code ≤ c → in_set ranges.now c ≡ in_set (drop result ranges.now) c }
-    ensures reaches { (d : CharRange) → result < length ranges.now → code ≤ (slice_index_or ranges.now result d).last }
+    ensures { IsReached ranges.now result code }
 {
     let mut low = 0;
     let mut high = ranges.len();
@@ -35,15 +33,17 @@ fn first_reaching(ranges: &[CharRange], code: u32) -> usize
     low
 }
 
-/// From the code on: how far all codes are in the ranges, or none is.
-pub(crate) fn stretch_at(ranges: &[CharRange], code: u32) -> Stretch
+/// From the code on: how far all codes are in the ranges, or none is. The range at `place` is the first that ends at
+/// the code or after it.
+pub(crate) fn stretch_from(ranges: &[CharRange], place: usize, code: u32) -> Stretch
     requires rising { rises 0 ranges.now ≡ true }
     requires within { code < 1_114_112 }
+    requires reached { IsReached ranges.now place code }
     ensures all { (c : ℕ) → code ≤ c → c < result.end → in_set ranges.now c ≡ result.has }
     ensures further { code < result.end }
     ensures end { result.end ≤ 1_114_112 }
+    ensures near { IsNear ranges.now place result.end }
 {
-    let place = first_reaching(ranges, code);
     if place == ranges.len() {
         return Stretch {
             has: false,
@@ -64,13 +64,28 @@ pub(crate) fn stretch_at(ranges: &[CharRange], code: u32) -> Stretch
     }
 }
 
+/// The first range that ends at the code or after it, where the one at `place` may end just before it.
+pub(crate) fn place_behind(ranges: &[CharRange], place: usize, code: u32) -> usize
+    requires rising { rises 0 ranges.now ≡ true }
+    requires reached { (before : ℕ) × (before ≤ code) × IsReached ranges.now place before }
+    requires near { IsNear ranges.now place code }
+    ensures { IsReached ranges.now result code }
+{
+    if place < ranges.len() && ranges[place].last < code {
+        place + 1
+    } else {
+        place
+    }
+}
+
 /// Whether the character with this code is in the ranges.
 pub(crate) fn has_code(ranges: &[CharRange], code: u32) -> bool
     requires rising { rises 0 ranges.now ≡ true }
     requires within { code < 1_114_112 }
     ensures { result ≡ in_set ranges.now code }
 {
-    stretch_at(ranges, code).has
+    let place = first_reaching(ranges, code);
+    stretch_from(ranges, place, code).has
 }
 
 /// Writes the range from `start` up to `at`, where it has a member.

@@ -1,3 +1,4 @@
 pub mod ClassLemmas
 pub mod EscapeLemmas
 pub mod HexLemmas
+pub mod SideLemmas

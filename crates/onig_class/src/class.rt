@@ -9,7 +9,7 @@ ghost use Rattle.syntax_defs.specs.Limits.{most_pattern_chars, most_levels};
 use crate::items::{begins_with, bracket_at, member_at, placed};
 use crate::sets::complement_if;
 use crate::sides::Sides;
-use char_sets::CharSet;
+use char_sets::{CharSet, NamedSets};
 use std::alloc::Global;
 use syntax_defs::{ClassPart, MOST_LEVELS, PatternRefusal};
 
@@ -47,6 +47,7 @@ fn opening(text: &[char], at: usize) -> (bool, usize)
 #[cycle(class)]
 fn members(
     alloc: Global,
+    sets: &mut NamedSets,
     text: &[char],
     from: usize,
     start: usize,
@@ -61,7 +62,7 @@ fn members(
         (length (drop from text.now)) no_members start (drop start text.now)) }
     ensures place { IfOk result (λ found. (start < found.1) × (found.1 ≤ length text.now)) }
 {
-    let mut sides = Sides::none(alloc)?;
+    let mut sides = Sides::none(alloc);
     let mut at = start;
     let mut first = true;
     loop {
@@ -73,13 +74,13 @@ fn members(
                 at += 2;
             }
             ClassPart::Class => {
-                let (set, next) = class_within(alloc, text, at, fold, levels)?;
-                sides = sides.with_member(alloc, &set)?;
+                let (set, next) = class_within(alloc, sets, text, at, fold, levels)?;
+                sides = sides.with_member(alloc, set)?;
                 at = next;
             }
             ClassPart::Member => {
-                let (set, next) = member_at(alloc, text, at, fold)?;
-                sides = sides.with_member(alloc, &set)?;
+                let (set, next) = member_at(alloc, sets, text, at, fold)?;
+                sides = sides.with_member(alloc, set)?;
                 at = next;
             }
         }
@@ -91,6 +92,7 @@ fn members(
 #[cycle(class)]
 fn class_within(
     alloc: Global,
+    sets: &mut NamedSets,
     text: &[char],
     at: usize,
     fold: bool,
@@ -108,7 +110,7 @@ fn class_within(
         });
     }
     let (negated, start) = opening(text, at);
-    let (set, next) = members(alloc, text, at, start, fold, levels - 1)?;
+    let (set, next) = members(alloc, sets, text, at, start, fold, levels - 1)?;
     placed(complement_if(alloc, set, negated), next)
 }
 
@@ -116,6 +118,7 @@ fn class_within(
 /// `fold` letters stand for both of their ASCII cases.
 pub fn read_class(
     alloc: Global,
+    sets: &mut NamedSets,
     text: &[char],
     at: usize,
     fold: bool,
@@ -127,5 +130,5 @@ pub fn read_class(
     ensures value { Gives IsSetOf text.now result (class_at fold depth at (drop at text.now)) }
     ensures place { IfOk result (λ found. (at < found.1) × (found.1 ≤ length text.now)) }
 {
-    class_within(alloc, text, at, fold, MOST_LEVELS - depth)
+    class_within(alloc, sets, text, at, fold, MOST_LEVELS - depth)
 }

@@ -7,7 +7,7 @@ ghost use Rattle.syntax_defs.specs.Limits.{most_pattern_chars};
 use crate::hex::{hex, unicode};
 use crate::names::property_by;
 use crate::sets::named_set;
-use char_sets::{CharSet, NamedSet};
+use char_sets::{CharSet, NamedSet, NamedSets};
 use std::alloc::Global;
 use syntax_defs::PatternRefusal;
 
@@ -179,6 +179,7 @@ pub(crate) fn escape_at(
 /// An escape that is one character or a set of characters, from its backslash at `at` on, and the place behind it.
 pub fn read_escape(
     alloc: Global,
+    sets: &mut NamedSets,
     text: &[char],
     at: usize,
 ) -> Result<(Escaped, usize), PatternRefusal>
@@ -187,10 +188,15 @@ pub fn read_escape(
     ensures value { Gives IsEscaped text.now result (escape_at at (drop at text.now)) }
     ensures place { IfOk result (λ found. (at < found.1) × (found.1 ≤ length text.now)) }
 {
-    made(alloc, text, at)
+    made(alloc, sets, text, at)
 }
 
-fn made(alloc: Global, text: &[char], at: usize) -> Result<(Escaped, usize), PatternRefusal>
+fn made(
+    alloc: Global,
+    sets: &mut NamedSets,
+    text: &[char],
+    at: usize,
+) -> Result<(Escaped, usize), PatternRefusal>
     requires there { at < length text.now }
     requires short { length text.now ≤ most_pattern_chars }
     ensures value { Gives IsEscaped text.now result (behind_backslash at (drop (at + 1) text.now)) }
@@ -199,7 +205,7 @@ fn made(alloc: Global, text: &[char], at: usize) -> Result<(Escaped, usize), Pat
     let (found, next) = escape_at(alloc, text, at)?;
     match found {
         Escape::Char(c) => Ok((Escaped::Char(c), next)),
-        Escape::Set(set, negated) => match named_set(alloc, set, negated) {
+        Escape::Set(set, negated) => match named_set(alloc, sets, set, negated) {
             Ok(set) => Ok((Escaped::Set(set), next)),
             Err(_) => Err(PatternRefusal::Memory),
         },

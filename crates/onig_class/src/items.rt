@@ -11,7 +11,7 @@ ghost use Rattle.syntax_defs.specs.Limits.{most_pattern_chars};
 use crate::escape::{Escape, escape_at};
 use crate::names::named_bracket;
 use crate::sets::{char_range, named_set, one_char};
-use char_sets::{CharSet, is_word_char};
+use char_sets::{CharSet, NamedSets, is_word_char};
 use std::alloc::{AllocError, Global};
 use syntax_defs::PatternRefusal;
 
@@ -233,6 +233,7 @@ fn range_or_one(
 #[tactic(auto, unfolding(syntax_defs::specs::Classes::member_at))]
 pub(crate) fn member_at(
     alloc: Global,
+    sets: &mut NamedSets,
     text: &[char],
     at: usize,
     fold: bool,
@@ -245,6 +246,6 @@ pub(crate) fn member_at(
     let (item, next) = item_at(alloc, text, at)?;
     match item {
         Escape::Char(first) => range_or_one(alloc, text, at, fold, first, next),
-        Escape::Set(set, negated) => placed(named_set(alloc, set, negated), next),
+        Escape::Set(set, negated) => placed(named_set(alloc, sets, set, negated), next),
     }
 }

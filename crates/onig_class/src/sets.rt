@@ -5,7 +5,7 @@ ghost use Rattle.char_sets.specs.Ranges.{IsSetOf};
 ghost use Rattle.syntax_defs.specs.Escapes.{complement_if};
 ghost use Rattle.syntax_defs.specs.Classes.{test_folded, is_char_folded, is_dot};
 
-use char_sets::{CharSet, NamedSet};
+use char_sets::{CharSet, NamedSet, NamedSets};
 use std::alloc::{AllocError, Global};
 
 /// The characters from `first` to `last`, and under `fold` those that are one of them in the other ASCII case.
@@ -37,7 +37,7 @@ pub fn dot(alloc: Global, many: bool) -> Result<CharSet, AllocError>
     ensures { IfOk result (λ s. IsSetOf s (is_dot many)) }
 {
     if many {
-        return CharSet::empty(alloc).complement(alloc);
+        return Ok(CharSet::all());
     }
     CharSet::one(alloc, '\n')?.complement(alloc)
 }
@@ -56,9 +56,14 @@ pub(crate) fn complement_if(
     Ok(set)
 }
 
-/// A named set or, where `negated`, its complement.
-pub(crate) fn named_set(alloc: Global, set: NamedSet, negated: bool) -> Result<CharSet, AllocError>
+/// A named set or, where `negated`, its complement, which is shared with all who ask for it.
+pub(crate) fn named_set(
+    alloc: Global,
+    sets: &mut NamedSets,
+    set: NamedSet,
+    negated: bool,
+) -> Result<CharSet, AllocError>
     ensures { IfOk result (λ s. IsSetOf s (complement_if negated (in_named set))) }
 {
-    complement_if(alloc, CharSet::named(alloc, set)?, negated)
+    sets.get(alloc, set, negated)
 }

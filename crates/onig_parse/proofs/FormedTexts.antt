@@ -1,9 +1,10 @@
 -- A text that is read is well formed.
-use Rattle.std.proofs.Common.{◌≡◌, ℕ, zero, suc, ◌+◌, List, [], ◌∷◌, length, Bool, true, false, Ok, IfOk, refl, arith}
+use Rattle.std.proofs.Common.{◌≡◌, ℕ, zero, suc, ◌+◌, List, [], ◌∷◌, length, Bool, true, false, Ok, IfOk, refl, subst, arith}
 use Rattle.std.proofs.lemmas.Result.{IfOk-at_ok}
 use Rattle.syntax_defs.specs.declared.items.Options.{Options}
 use Rattle.syntax_defs.specs.Sights.{sight_at}
-use Rattle.syntax_defs.specs.PatternSyntax.{Seen, Body, BodyReader, Parsed, rest_of, empty_body, step, after_step, steps, body_at, whole_by, no_options, start, parse}
+use Rattle.pattern_defs.specs.declared.nodes.ListId.{ListId}
+use Rattle.syntax_defs.specs.PatternSyntax.{Seen, Body, BodyReader, Parsed, body_list, rest_of, empty_body, step, after_step, steps, body_at, whole_by, no_options, start, parse}
 use Rattle.onig_parse.specs.Formed.{IsFormed}
 use Rattle.onig_parse.proofs.FormedParts.{FormedPart, empty_part}
 use Rattle.onig_parse.proofs.FormedGroups.{KeepsForm, body_list-formed}
@@ -43,3 +44,13 @@ parse-read text =
 -- whatever is read is well formed
 pub parse-formed : (text : List ℕ) (parsed : Parsed) → parse text ≡ Ok parsed → IsFormed text parsed
 parse-formed text parsed e = IfOk-at_ok (IsFormed text) e (parse-read text)
+
+-- reading keeps its text
+pub same_text : (text from : List ℕ) (options : Options) (b : Body) (s : Seen) (id : ListId) (done : Seen) → from ≡ text → options ≡ no_options → body_at 101 options (start from) ≡ Ok (b, s) → body_list b s ≡ (id, done) → done.text ≡ text
+same_text text from options b s id done is plain read listed =
+    let begun = body_at-formed text 101 no_options (start text) (record { same = refl; place = omega arith; lists = tt; names = tt }) in
+    let first : body_at 101 no_options (start text) ≡ Ok (b, s) = rw (← is, ← plain) read in
+    let part = IfOk-at_ok (λ r. FormedPart text (start text) r.0 r.1) first begun in
+    let list = body_list-formed text b s part.seen part.body in
+    let P : ListId × Seen → Type 0 = λ r. r.1.text ≡ text in
+    subst P listed list.seen.same

@@ -2,6 +2,7 @@
 use Rattle.std.specs.Prelude.{◌≤◌, length, map}
 use Rattle.syntax_defs.specs.Limits.{most_pattern_chars}
 use Rattle.syntax_defs.specs.PatternSyntax.{Seen, Body, Parsed}
+use Rattle.onig_parse.specs.KeptClasses.{AreKeptClasses}
 use Rattle.onig_parse.specs.declared.reader.Reader.TheInside as reader
 use Rattle.onig_parse.specs.declared.parsed.ParsedText.TheInside as parsed
 use Rattle.onig_parse.specs.declared.body.OpenBody.TheInside as body
@@ -18,6 +19,7 @@ seen_of r = record {
 pub record IsReader (r : reader.Inside) : Type 0 where
   pub place : r.at ≤ length r.text.items
   pub short : length r.text.items ≤ most_pattern_chars
+  pub classes : AreKeptClasses r.text.items r.classes.items
 
 abbrev pub body_of : body.Inside → Body
 body_of b = record { ended = b.ended; done = b.done.items; last = b.last.items; repeats = b.repeats }

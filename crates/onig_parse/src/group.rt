@@ -6,10 +6,12 @@ ghost use Rattle.syntax_defs.specs.Limits.{most_levels};
 
 use crate::body::OpenBody;
 use crate::head::{Extent, behind, head_of, options_inside};
+use crate::kept::KeptClass;
 use crate::reader::Reader;
 use crate::sight::sight_of;
 use crate::single::read_single;
 use crate::steps::one_item;
+use char_sets::NamedSets;
 use std::alloc::AllocError;
 use syntax_defs::{Head, Item, MOST_LEVELS, Options, PatternRefusal, Sight};
 
@@ -85,6 +87,7 @@ impl Reader {
     /// A single character or a set.
     fn take_single(
         &mut self,
+        sets: &mut NamedSets,
         body: &mut OpenBody,
         options: Options,
         depth: u32,
@@ -93,14 +96,25 @@ impl Reader {
         ensures { GivesStep result body.new self.new (adds body.old (single_item options depth self.old)) }
     {
         let at = self.place();
-        let (_, next) = read_single(self.alloc(), self.text(), at, options, depth)?;
+        let (set, next) = read_single(self.alloc(), sets, self.text(), at, options, depth)?;
+        self.keep_class(KeptClass {
+            at,
+            options,
+            depth,
+            set,
+        })?;
         self.go_to(next);
         self.take_one(body, Item::One { at, options, depth })
     }
 
     /// The items of the form in parentheses that begins here. So many forms may open in it, one in another.
     #[cycle(forms)]
-    fn group(&mut self, options: Options, levels: u32) -> Result<Vec<Item>, PatternRefusal>
+    fn group(
+        &mut self,
+        sets: &mut NamedSets,
+        options: Options,
+        levels: u32,
+    ) -> Result<Vec<Item>, PatternRefusal>
         requires { levels ≤ most_levels }
         ensures { GivesNow (λ items. items.items) result self.new (group_at (body_at levels) options self.old) }
     {
@@ -109,7 +123,7 @@ impl Reader {
         self.go_to(next);
         self.begin_form(here, head)?;
         let number = self.groups();
-        let body = self.body(options_inside(head, options), levels)?;
+        let body = self.body(sets, options_inside(head, options), levels)?;
         self.end_form(head)?;
         Ok(self.made(head, number, here.begin, body)?)
     }
@@ -118,6 +132,7 @@ impl Reader {
     #[cycle(forms)]
     fn take_group(
         &mut self,
+        sets: &mut NamedSets,
         body: &mut OpenBody,
         options: Options,
         levels: u32,
@@ -125,7 +140,7 @@ impl Reader {
         requires { levels ≤ most_levels }
         ensures { GivesStep result body.new self.new (adds body.old (group_at (body_at levels) options self.old)) }
     {
-        let items = self.group(options, levels)?;
+        let items = self.group(sets, options, levels)?;
         body.take_item(items)?;
         Ok(true)
     }
@@ -134,6 +149,7 @@ impl Reader {
     #[cycle(forms)]
     fn step(
         &mut self,
+        sets: &mut NamedSets,
         body: &mut OpenBody,
         options: Options,
         levels: u32,
@@ -154,17 +170,22 @@ impl Reader {
             }
             Sight::Comment => self.take_comment(body),
             Sight::Repeat(bounds) => self.take_repeat(body, bounds),
-            Sight::Open => self.take_group(body, options, levels),
+            Sight::Open => self.take_group(sets, body, options, levels),
             Sight::Edge { anchor, length } => self.take_edge(body, anchor, length),
             Sight::Number => self.take_number(body, options),
             Sight::Reference => self.take_reference(body, options),
-            Sight::Single => self.take_single(body, options, MOST_LEVELS - levels),
+            Sight::Single => self.take_single(sets, body, options, MOST_LEVELS - levels),
         }
     }
 
     /// The body of a form, up to its `)` or the end of the text.
     #[cycle(forms)]
-    pub(crate) fn body(&mut self, options: Options, levels: u32) -> Result<OpenBody, PatternRefusal>
+    pub(crate) fn body(
+        &mut self,
+        sets: &mut NamedSets,
+        options: Options,
+        levels: u32,
+    ) -> Result<OpenBody, PatternRefusal>
         requires { levels ≤ most_levels + 1 }
         ensures { GivesNow (λ body. body) result self.new (body_at levels options self.old) }
     {
@@ -177,7 +198,7 @@ impl Reader {
         let mut left = self.text().len() + 1;
         while left > 0 {
             left -= 1;
-            if !self.step(&mut body, options, levels - 1)? {
+            if !self.step(sets, &mut body, options, levels - 1)? {
                 return Ok(body);
             }
         }

@@ -1,10 +1,13 @@
-ghost use Rattle.std.specs.Prelude.{◌≡◌, ◌≤◌, length};
+ghost use Rattle.std.specs.Prelude.{◌≡◌, ◌≤◌, length, IfOk};
 ghost use Rattle.syntax_defs.specs.Reading.{Answers};
 ghost use Rattle.syntax_defs.specs.PatternSyntax.{no_options, parse, start, whole_by};
 ghost use Rattle.syntax_defs.specs.Limits.{most_pattern_chars};
+ghost use Rattle.onig_parse.specs.KeptClasses.{AreKeptClasses};
 
+use crate::kept::KeptClass;
 use crate::parsed::ParsedText;
 use crate::reader::Reader;
+use char_sets::NamedSets;
 use std::alloc::Global;
 use syntax_defs::{MOST_LEVELS, Options, PatternRefusal};
 
@@ -19,16 +22,21 @@ fn no_options() -> Options
     }
 }
 
-/// The items of a text, or the first fault that a reading from left to right meets.
-pub(crate) fn parse(alloc: Global, text: &[char]) -> Result<ParsedText, PatternRefusal>
+/// The items of a text and the sets of its classes, or the first fault that a reading from left to right meets.
+pub(crate) fn parse(
+    alloc: Global,
+    sets: &mut NamedSets,
+    text: &[char],
+) -> Result<(ParsedText, Vec<KeptClass>), PatternRefusal>
     requires { length text.now ≤ most_pattern_chars }
-    ensures { Answers (λ parsed. parsed) result (parse text.now) }
+    ensures value { Answers (λ found. found.0) result (parse text.now) }
+    ensures classes { IfOk result (λ found. AreKeptClasses text.now found.1.items) }
 {
     let mut reader = Reader::new(alloc, Vec::from_slice(alloc, text)?);
-    let body = reader.body(no_options(), MOST_LEVELS + 1)?;
+    let body = reader.body(sets, no_options(), MOST_LEVELS + 1)?;
     if !reader.rest().is_empty() {
         return Err(reader.here().bad());
     }
     let top = reader.body_list(body)?;
-    Ok(reader.into_parsed(top))
+    Ok(reader.into_parts(top))
 }

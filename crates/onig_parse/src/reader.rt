@@ -2,8 +2,10 @@ ghost use Rattle.std.specs.Prelude.{◌≡◌, ◌+◌, ◌≤◌, [], ◌∷◌
 ghost use Rattle.std.specs.List.{list_any};
 ghost use Rattle.syntax_defs.specs.PatternSyntax.{at_place, is_named, next_id, parsed_of, past, rest_of, start, with_group, with_list};
 ghost use Rattle.syntax_defs.specs.Limits.{most_pattern_chars};
+ghost use Rattle.onig_parse.specs.KeptClasses.{IsKeptClass, AreKeptClasses};
 
 use crate::head::word_from;
+use crate::kept::KeptClass;
 use crate::parsed::ParsedText;
 use pattern_defs::ListId;
 use pattern_tree::counted;
@@ -12,7 +14,7 @@ use std::marker::Model;
 use syntax_defs::{GroupName, Item, Span};
 
 /// A pattern text that is being read from left to right: the place of the next character, the lists of items that
-/// have ended, and how many numbered groups have begun, with their names.
+/// have ended, how many numbered groups have begun, with their names, and the sets of the classes.
 #[derive(Drop)]
 pub(crate) struct Reader {
     alloc: Global,
@@ -21,6 +23,7 @@ pub(crate) struct Reader {
     lists: Vec<Vec<Item>>,
     groups: u32,
     names: Vec<GroupName>,
+    classes: Vec<KeptClass>,
 }
 
 impl Model for Reader {
@@ -47,6 +50,7 @@ impl Reader {
             lists: Vec::new(alloc),
             groups: 0,
             names: Vec::new(alloc),
+            classes: Vec::new(alloc),
         }
     }
 
@@ -122,11 +126,24 @@ impl Reader {
         self.groups
     }
 
-    /// What was read, whose whole is the list `top`.
-    pub(crate) fn into_parsed(self, top: ListId) -> ParsedText
-        ensures { result ≡ parsed_of (top, self) }
+    /// Keeps the set of a single item, where that is a class. Any other set is soon made again.
+    pub(crate) fn keep_class(&mut self, class: KeptClass) -> Result<(), AllocError>
+        requires { IsKeptClass self.old.text class }
+        ensures { OnOk result (self.new ≡ self.old) }
     {
-        ParsedText::new(self.lists, top, self.groups, self.names)
+        if self.rest().first().copied() == Some('[') {
+            self.classes.push(class)?;
+        }
+        Ok(())
+    }
+
+    /// What was read, whose whole is the list `top`, and the sets of its classes.
+    pub(crate) fn into_parts(self, top: ListId) -> (ParsedText, Vec<KeptClass>)
+        ensures parsed { result.0 ≡ parsed_of (top, self) }
+        ensures classes { AreKeptClasses self.text result.1.items }
+    {
+        let parsed = ParsedText::new(self.lists, top, self.groups, self.names);
+        (parsed, self.classes)
     }
 
     /// Whether a group has this name.

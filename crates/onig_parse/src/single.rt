@@ -5,7 +5,7 @@ ghost use Rattle.syntax_defs.specs.Escapes.{escape_at};
 ghost use Rattle.syntax_defs.specs.Singles.{escaped_single, single_at};
 ghost use Rattle.syntax_defs.specs.Limits.{most_levels, most_pattern_chars};
 
-use char_sets::CharSet;
+use char_sets::{CharSet, NamedSets};
 use onig_class::{Escaped, dot, one_char, read_class, read_escape};
 use std::alloc::Global;
 use syntax_defs::{Options, PatternRefusal};
@@ -13,6 +13,7 @@ use syntax_defs::{Options, PatternRefusal};
 /// The set of an escape that is a character or a set.
 fn read_escaped(
     alloc: Global,
+    sets: &mut NamedSets,
     text: &[char],
     at: usize,
     fold: bool,
@@ -21,7 +22,7 @@ fn read_escaped(
     requires short { length text.now ≤ most_pattern_chars }
     ensures { Gives IsSetOf text.now result (escaped_single fold (escape_at at (drop at text.now))) }
 {
-    let (escaped, next) = read_escape(alloc, text, at)?;
+    let (escaped, next) = read_escape(alloc, sets, text, at)?;
     match escaped {
         Escaped::Char(c) => Ok((one_char(alloc, c, fold)?, next)),
         Escaped::Set(set) => Ok((set, next)),
@@ -31,6 +32,7 @@ fn read_escaped(
 /// The single character or set that begins at a place inside so many forms, and the place behind it.
 pub(crate) fn read_single(
     alloc: Global,
+    sets: &mut NamedSets,
     text: &[char],
     at: usize,
     options: Options,
@@ -44,8 +46,8 @@ pub(crate) fn read_single(
     match text.get(at) {
         None => Err(PatternRefusal::Syntax { at: at as u64 }),
         Some('.') => Ok((dot(alloc, options.dot_all)?, at + 1)),
-        Some('\\') => read_escaped(alloc, text, at, options.any_case),
-        Some('[') => read_class(alloc, text, at, options.any_case, depth),
+        Some('\\') => read_escaped(alloc, sets, text, at, options.any_case),
+        Some('[') => read_class(alloc, sets, text, at, options.any_case, depth),
         Some(c) => Ok((one_char(alloc, *c, options.any_case)?, at + 1)),
     }
 }

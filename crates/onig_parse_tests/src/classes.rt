@@ -1,4 +1,4 @@
-use char_sets::CharSet;
+use char_sets::{CharSet, NamedSets};
 use onig_class::{Escaped, dot, one_char, read_class, read_escape};
 use std::alloc::{AllocError, Global};
 use std::test::Fail;
@@ -36,7 +36,8 @@ fn class_shown(
     if text.len() > 65_536 || depth > 100 || text.get(0).copied() != Some('[') {
         return format!(in alloc; "no class");
     }
-    match read_class(alloc, &text, 0, fold, depth) {
+    let mut sets = NamedSets::new(alloc);
+    match read_class(alloc, &mut sets, &text, 0, fold, depth) {
         Ok((set, next)) => set_shown(alloc, &set, next, chars),
         Err(refusal) => refusal_shown(alloc, refusal),
     }
@@ -47,7 +48,8 @@ fn escape_shown(alloc: Global, text: &str, chars: &str) -> Result<String, AllocE
     if text.len() > 65_536 || text.get(0).copied() != Some('\\') {
         return format!(in alloc; "no escape");
     }
-    match read_escape(alloc, &text, 0) {
+    let mut sets = NamedSets::new(alloc);
+    match read_escape(alloc, &mut sets, &text, 0) {
         Ok((found, next)) => match found {
             Escaped::Char(c) => {
                 let code = c as u32;

@@ -1,5 +1,6 @@
 -- Files by name: where one stands, and what a change of one and a new one leave.
-use Rattle.std.proofs.Common.{◌≡◌, ◌≢◌, ℕ, zero, suc, ◌+◌, ◌<◌, ◌≤◌, Bool, true, false, List, [], ◌∷◌, ◌++◌, length, Option, Some, None, refl, ap, sym, ◌∙◌, arith, subst}
+use Rattle.std.proofs.Common.{◌≡◌, ◌≢◌, ℕ, zero, suc, ◌+◌, ◌<◌, ◌≤◌, Bool, true, false, List, [], ◌∷◌, ◌++◌, length}
+use Rattle.std.proofs.Common.{Option, Some, None, refl, ap, sym, ◌∙◌, arith, subst}
 use Rattle.std.specs.Prelude.{MatchOption, not, option_map, slice_index_or, slice_set, position, nat_lt, if◌then◌else◌}
 use Rattle.std.specs.List.{position_or_len}
 use Rattle.std.specs.Str.{bytes_eq}
@@ -13,18 +14,22 @@ use Rattle.piece_io.specs.declared.mem_files.MemFile.{MemFile}
 pub record IsPlaceOf (files : List MemFile) (name : List ℕ) (at : ℕ) : Type 0 where
   pub within : at < length files
   pub found : (d : MemFile) → file_of files name ≡ Some (slice_index_or files at d)
-  pub change : (change : MemFile → MemFile) (d : MemFile) → changed change files name ≡ slice_set files at (change (slice_index_or files at d))
+  pub change : (change : MemFile → MemFile) (d : MemFile) → changed change files name
+      ≡ slice_set files at (change (slice_index_or files at d))
 
 -- the place of a file among the later ones
-later-place : (b : Bool) (name : List ℕ) (file : MemFile) (files : List MemFile) (at : ℕ) → bytes_eq file.name name ≡ b → b ≡ false
+later-place : (b : Bool) (name : List ℕ) (file : MemFile) (files : List MemFile) (at : ℕ) → bytes_eq file.name name
+    ≡ b → b ≡ false
     → IsPlaceOf files name at → IsPlaceOf (file ∷ files) name (suc at)
 later-place b name file files at is other place = record {
   within = omega (arith, place.within);
   found = λ d. ap (λ b. if b then Some file else file_of files name) (is ∙ other) ∙ place.found d;
-  change = λ change d. ap (λ b. changed_at b change file files (changed change files name)) (is ∙ other) ∙ ap (λ files. file ∷ files) (place.change change d);
+  change = λ change d. ap (λ b. changed_at b change file files (changed change files name)) (is ∙ other)
+      ∙ ap (λ files. file ∷ files) (place.change change d);
 }
 
-first-place : (name : List ℕ) (file : MemFile) (files : List MemFile) → bytes_eq file.name name ≡ true → IsPlaceOf (file ∷ files) name zero
+first-place : (name : List ℕ) (file : MemFile) (files : List MemFile) → bytes_eq file.name name ≡ true
+    → IsPlaceOf (file ∷ files) name zero
 first-place name file files is = record {
   within = omega arith;
   found = λ d. ap (λ b. if b then Some file else file_of files name) is;
@@ -35,11 +40,13 @@ first-place name file files is = record {
 before : List ℕ → List MemFile → ℕ
 before name files = position_or_len (λ file. bytes_eq file.name name) files
 
-before-here : (name : List ℕ) (file : MemFile) (files : List MemFile) → bytes_eq file.name name ≡ true → before name (file ∷ files) ≡ zero
+before-here : (name : List ℕ) (file : MemFile) (files : List MemFile) → bytes_eq file.name name ≡ true
+    → before name (file ∷ files) ≡ zero
 unfolding before
 before-here name file files is = ap (λ b. if not b then 1 + before name files else 0) is
 
-before-later : (name : List ℕ) (file : MemFile) (files : List MemFile) → bytes_eq file.name name ≡ false → before name (file ∷ files) ≡ suc (before name files)
+before-later : (name : List ℕ) (file : MemFile) (files : List MemFile) → bytes_eq file.name name ≡ false
+    → before name (file ∷ files) ≡ suc (before name files)
 unfolding before
 before-later name file files is = ap (λ b. if not b then 1 + before name files else 0) is ∙ omega arith
 
@@ -51,7 +58,8 @@ place-by false name file files is later within =
     let there : before name files < length files = omega (arith, before-later name file files is) in
     rw (before-later name file files is) (later-place false name file files (before name files) is refl (later there))
 
-place : (name : List ℕ) (files : List MemFile) → before name files < length files → IsPlaceOf files name (before name files)
+place : (name : List ℕ) (files : List MemFile) → before name files < length files
+    → IsPlaceOf files name (before name files)
 place name [] within = absurd (omega arith)
 place name (file ∷ files) within = place-by (bytes_eq file.name name) name file files refl (place name files) within
 
@@ -64,7 +72,8 @@ no-place-by false name file files is later past =
 
 no-place : (name : List ℕ) (files : List MemFile) → length files ≤ before name files → file_of files name ≡ None
 no-place name [] past = refl
-no-place name (file ∷ files) past = no-place-by (bytes_eq file.name name) name file files refl (no-place name files) past
+no-place name (file ∷ files) past = no-place-by (bytes_eq file.name name) name file files refl (no-place name files)
+    past
 
 position-by : (b : Bool) (name : List ℕ) (files : List MemFile) → nat_lt (before name files) (length files) ≡ b
     → MatchOption (if b then Some (before name files) else None) (file_of files name ≡ None) (IsPlaceOf files name)
@@ -72,24 +81,29 @@ position-by true name files is = place name files (ltb-true (before name files) 
 position-by false name files is = no-place name files (ltb-false (before name files) (length files) is)
 
 -- what `position` finds is the place of the file
-pub placed : (name : List ℕ) (files : List MemFile) (r : Option ℕ) → r ≡ position (λ file. bytes_eq file.name name) files
+pub placed : (name : List ℕ) (files : List MemFile) (r : Option ℕ) → r
+    ≡ position (λ file. bytes_eq file.name name) files
     → MatchOption r (file_of files name ≡ None) (IsPlaceOf files name)
 unfolding before
 placed name files r is =
     let P : Option ℕ → Type 0 = λ r. MatchOption r (file_of files name ≡ None) (IsPlaceOf files name) in
     subst P (sym is) (position-by (nat_lt (before name files) (length files)) name files refl)
 
-changed-none-by : (b : Bool) (change : MemFile → MemFile) (file : MemFile) (files : List MemFile) (name : List ℕ) → bytes_eq file.name name ≡ b
-    → (file_of files name ≡ None → changed change files name ≡ files) → file_of (file ∷ files) name ≡ None → changed change (file ∷ files) name ≡ file ∷ files
+changed-none-by : (b : Bool) (change : MemFile → MemFile) (file : MemFile) (files : List MemFile) (name : List ℕ)
+    → bytes_eq file.name name ≡ b
+    → (file_of files name ≡ None → changed change files name ≡ files) → file_of (file ∷ files) name ≡ None
+    → changed change (file ∷ files) name ≡ file ∷ files
 changed-none-by true change file files name is later none =
     let here : file_of (file ∷ files) name ≡ Some file = ap (λ b. if b then Some file else file_of files name) is in cc
 changed-none-by false change file files name is later none =
     ap (λ b. changed_at b change file files (changed change files name)) is
     ∙ ap (λ files. file ∷ files) (later (sym (ap (λ b. if b then Some file else file_of files name) is) ∙ none))
 
-pub changed-none : (change : MemFile → MemFile) (files : List MemFile) (name : List ℕ) → file_of files name ≡ None → changed change files name ≡ files
+pub changed-none : (change : MemFile → MemFile) (files : List MemFile) (name : List ℕ) → file_of files name ≡ None
+    → changed change files name ≡ files
 changed-none change [] name none = refl
-changed-none change (file ∷ files) name none = changed-none-by (bytes_eq file.name name) change file files name refl (changed-none change files name) none
+changed-none change (file ∷ files) name none =
+    changed-none-by (bytes_eq file.name name) change file files name refl (changed-none change files name) none
 
 -- a change that keeps each file's name
 abbrev pub KeepsName : (MemFile → MemFile) → Type 0
@@ -100,11 +114,13 @@ file_of-here : (file : MemFile) (files : List MemFile) (name : List ℕ) (b : Bo
     → file_of (file ∷ files) name ≡ (if b then Some file else file_of files name)
 file_of-here file files name b is = ap (λ b. if b then Some file else file_of files name) is
 
-changed-here : (change : MemFile → MemFile) (file : MemFile) (files : List MemFile) (name : List ℕ) (b : Bool) → bytes_eq file.name name ≡ b
+changed-here : (change : MemFile → MemFile) (file : MemFile) (files : List MemFile) (name : List ℕ) (b : Bool)
+    → bytes_eq file.name name ≡ b
     → changed change (file ∷ files) name ≡ changed_at b change file files (changed change files name)
 changed-here change file files name b is = ap (λ b. changed_at b change file files (changed change files name)) is
 
-file_of-changed-by : (b : Bool) (change : MemFile → MemFile) (file : MemFile) (files : List MemFile) (name : List ℕ) → KeepsName change
+file_of-changed-by : (b : Bool) (change : MemFile → MemFile) (file : MemFile) (files : List MemFile) (name : List ℕ)
+    → KeepsName change
     → bytes_eq file.name name ≡ b → file_of (changed change files name) name ≡ option_map change (file_of files name)
     → file_of (changed change (file ∷ files) name) name ≡ option_map change (file_of (file ∷ files) name)
 file_of-changed-by true change file files name keeps is later =
@@ -121,33 +137,42 @@ pub file_of-changed : (change : MemFile → MemFile) (files : List MemFile) (nam
     → file_of (changed change files name) name ≡ option_map change (file_of files name)
 file_of-changed change [] name keeps = refl
 file_of-changed change (file ∷ files) name keeps =
-    file_of-changed-by (bytes_eq file.name name) change file files name keeps refl (file_of-changed change files name keeps)
+    file_of-changed-by (bytes_eq file.name name) change file files name keeps refl
+    (file_of-changed change files name keeps)
 
 -- two files that go by the same names
-same-first : (first other : MemFile) (files others : List MemFile) (q : List ℕ) → other.name ≡ first.name → (bytes_eq first.name q ≡ true → Some other ≡ Some first)
-    → file_of others q ≡ file_of files q → (b : Bool) → bytes_eq first.name q ≡ b → file_of (other ∷ others) q ≡ file_of (first ∷ files) q
+same-first : (first other : MemFile) (files others : List MemFile) (q : List ℕ) → other.name ≡ first.name
+    → (bytes_eq first.name q ≡ true → Some other ≡ Some first)
+    → file_of others q ≡ file_of files q → (b : Bool) → bytes_eq first.name q ≡ b → file_of (other ∷ others) q
+    ≡ file_of (first ∷ files) q
 same-first first other files others q names same later true is =
-    file_of-here other others q true (ap (λ own. bytes_eq own q) names ∙ is) ∙ same is ∙ sym (file_of-here first files q true is)
+    file_of-here other others q true (ap (λ own. bytes_eq own q) names ∙ is) ∙ same is
+    ∙ sym (file_of-here first files q true is)
 same-first first other files others q names same later false is =
-    file_of-here other others q false (ap (λ own. bytes_eq own q) names ∙ is) ∙ later ∙ sym (file_of-here first files q false is)
+    file_of-here other others q false (ap (λ own. bytes_eq own q) names ∙ is) ∙ later
+    ∙ sym (file_of-here first files q false is)
 
-changed-other-by : (b : Bool) (change : MemFile → MemFile) (file : MemFile) (files : List MemFile) (name q : List ℕ) → KeepsName change → q ≢ name
+changed-other-by : (b : Bool) (change : MemFile → MemFile) (file : MemFile) (files : List MemFile) (name q : List ℕ)
+    → KeepsName change → q ≢ name
     → bytes_eq file.name name ≡ b → file_of (changed change files name) q ≡ file_of files q
     → file_of (changed change (file ∷ files) name) q ≡ file_of (file ∷ files) q
 changed-other-by true change file files name q keeps other is later =
     ap (λ files. file_of files q) (changed-here change file files name true is)
     ∙ same-first file (change file) files files q (keeps file)
-    (λ here. absurd (other (sym (same_text file.name q (sym here)) ∙ same_text file.name name (sym is)))) refl (bytes_eq file.name q) refl
+    (λ here. absurd (other (sym (same_text file.name q (sym here)) ∙ same_text file.name name (sym is)))) refl
+    (bytes_eq file.name q) refl
 changed-other-by false change file files name q keeps other is later =
     ap (λ files. file_of files q) (changed-here change file files name false is)
     ∙ same-first file file files (changed change files name) q refl (λ _. refl) later (bytes_eq file.name q) refl
 
 -- the files of other names stay
-pub file_of-changed-other : (change : MemFile → MemFile) (files : List MemFile) (name q : List ℕ) → KeepsName change → q ≢ name
+pub file_of-changed-other : (change : MemFile → MemFile) (files : List MemFile) (name q : List ℕ) → KeepsName change
+    → q ≢ name
     → file_of (changed change files name) q ≡ file_of files q
 file_of-changed-other change [] name q keeps other = refl
 file_of-changed-other change (file ∷ files) name q keeps other =
-    changed-other-by (bytes_eq file.name name) change file files name q keeps other refl (file_of-changed-other change files name q keeps other)
+    changed-other-by (bytes_eq file.name name) change file files name q keeps other refl
+    (file_of-changed-other change files name q keeps other)
 
 -- what holds of the file of the name, and of each other one that stays, holds of all
 pub by-name : (P : List ℕ → Type 0) (name q : List ℕ) → P name → (q ≢ name → P q) → P q
@@ -164,37 +189,48 @@ bytes_eq-same xs = by (bytes_eq xs xs) refl
     by true is = refl
     by false is = absurd (other_text xs xs (sym is) refl)
 
-push-other-by : (file : MemFile) (q : List ℕ) → q ≢ file.name → (b : Bool) → bytes_eq file.name q ≡ b → (if b then Some file else None) ≡ None
+push-other-by : (file : MemFile) (q : List ℕ) → q ≢ file.name → (b : Bool) → bytes_eq file.name q ≡ b
+    → (if b then Some file else None) ≡ None
 push-other-by file q other true is = absurd (other (sym (same_text file.name q (sym is))))
 push-other-by file q other false is = refl
 
 -- a new file at the end
-pub file_of-push-other : (files : List MemFile) (file : MemFile) (q : List ℕ) → q ≢ file.name → file_of (files ++ file ∷ []) q ≡ file_of files q
+pub file_of-push-other : (files : List MemFile) (file : MemFile) (q : List ℕ) → q ≢ file.name
+    → file_of (files ++ file ∷ []) q ≡ file_of files q
 file_of-push-other [] file q other = push-other-by file q other (bytes_eq file.name q) refl
 file_of-push-other (first ∷ files) file q other =
-    same-first first first files (files ++ file ∷ []) q refl (λ _. refl) (file_of-push-other files file q other) (bytes_eq first.name q) refl
+    same-first first first files (files ++ file ∷ []) q refl (λ _. refl) (file_of-push-other files file q other)
+    (bytes_eq first.name q) refl
 
-push-by : (b : Bool) (first : MemFile) (files : List MemFile) (file : MemFile) (name : List ℕ) → bytes_eq first.name name ≡ b
+push-by : (b : Bool) (first : MemFile) (files : List MemFile) (file : MemFile) (name : List ℕ)
+    → bytes_eq first.name name ≡ b
     → (file_of files name ≡ None → file_of (files ++ file ∷ []) name ≡ Some file) → file_of (first ∷ files) name ≡ None
     → file_of (first ∷ files ++ file ∷ []) name ≡ Some file
 push-by true first files file name is later none = let here = file_of-here first files name true is in cc
 push-by false first files file name is later none =
     file_of-here first (files ++ file ∷ []) name false is ∙ later (sym (file_of-here first files name false is) ∙ none)
 
-pub file_of-push : (files : List MemFile) (file : MemFile) (name : List ℕ) → file.name ≡ name → file_of files name ≡ None → file_of (files ++ file ∷ []) name ≡ Some file
-file_of-push [] file name is none = file_of-here file [] name true (ap (λ own. bytes_eq own name) is ∙ bytes_eq-same name)
-file_of-push (first ∷ files) file name is none = push-by (bytes_eq first.name name) first files file name refl (file_of-push files file name is) none
+pub file_of-push : (files : List MemFile) (file : MemFile) (name : List ℕ) → file.name ≡ name → file_of files name
+    ≡ None → file_of (files ++ file ∷ []) name ≡ Some file
+file_of-push [] file name is none = file_of-here file [] name true
+    (ap (λ own. bytes_eq own name) is ∙ bytes_eq-same name)
+file_of-push (first ∷ files) file name is none =
+    push-by (bytes_eq first.name name) first files file name refl (file_of-push files file name is) none
 
 -- no count falls where the count of one file doesn't
-pub faulted-never_falls : (absent : ℕ) (files : List MemFile) (name : List ℕ) (file : MemFile) → file_of files name ≡ Some file → file.faults ≤ risen file.faults
+pub faulted-never_falls : (absent : ℕ) (files : List MemFile) (name : List ℕ) (file : MemFile) → file_of files name
+    ≡ Some file → file.faults ≤ risen file.faults
     → (q : List ℕ) → count_of absent (file_of files q) ≤ count_of absent (file_of (changed faulted files name) q)
 faulted-never_falls absent files name file here rises q =
-    let P : List ℕ → Type 0 = λ q. count_of absent (file_of files q) ≤ count_of absent (file_of (changed faulted files name) q) in
+    let P : List ℕ → Type 0 = λ q. count_of absent (file_of files q) ≤ count_of absent
+    (file_of (changed faulted files name) q) in
     let now : file_of (changed faulted files name) name ≡ Some (faulted file) =
     file_of-changed faulted files name (λ _. refl) ∙ ap (option_map faulted) here in
-    by-name P name q (rw (here, now) rises) (λ other. rw (file_of-changed-other faulted files name q (λ _. refl) other) (omega arith))
+    by-name P name q (rw (here, now) rises) (λ other. rw (file_of-changed-other faulted files name q (λ _. refl)
+    other) (omega arith))
 
-pub absent-never_falls : (before now : ℕ) (found : Option MemFile) → before ≤ now → count_of before found ≤ count_of now found
+pub absent-never_falls : (before now : ℕ) (found : Option MemFile) → before ≤ now
+    → count_of before found ≤ count_of now found
 absent-never_falls before now None rises = rises
 absent-never_falls before now (Some file) rises = omega arith
 
@@ -203,13 +239,15 @@ told-faulted None = refl
 told-faulted (Some file) = refl
 
 -- what is told of the files stays where a count rises
-pub faulted-told : (files : List MemFile) (name q : List ℕ) → told_of (file_of (changed faulted files name) q) ≡ told_of (file_of files q)
+pub faulted-told : (files : List MemFile) (name q : List ℕ) → told_of (file_of (changed faulted files name) q)
+    ≡ told_of (file_of files q)
 faulted-told files name q =
     let P : List ℕ → Type 0 = λ q. told_of (file_of (changed faulted files name) q) ≡ told_of (file_of files q) in
     by-name P name q (ap told_of (file_of-changed faulted files name (λ _. refl)) ∙ told-faulted (file_of files name))
     (λ other. ap told_of (file_of-changed-other faulted files name q (λ _. refl) other))
 
-rises-by : (absent : ℕ) (found : Option MemFile) → count_of (absent_after absent found) (option_map faulted found) ≡ risen (count_of absent found)
+rises-by : (absent : ℕ) (found : Option MemFile) → count_of (absent_after absent found) (option_map faulted found)
+    ≡ risen (count_of absent found)
 rises-by absent None = refl
 rises-by absent (Some file) = refl
 
@@ -228,34 +266,45 @@ faulted-rises absent absent' files files' name is-absent is-files =
 abbrev pub filled : List ℕ → MemFile → MemFile
 filled bytes file = record { name = file.name; bytes = bytes; faults = file.faults }
 
-pub filled-at : (files : List MemFile) (name : List ℕ) (at : ℕ) (file : MemFile) (bytes : List ℕ) → IsPlaceOf files name at
+pub filled-at : (files : List MemFile) (name : List ℕ) (at : ℕ) (file : MemFile) (bytes : List ℕ)
+    → IsPlaceOf files name at
     → file ≡ slice_index_or files at file → slice_set files at (filled bytes file) ≡ changed (filled bytes) files name
-filled-at files name at file bytes place is = ap (λ file. slice_set files at (filled bytes file)) is ∙ sym (place.change (filled bytes) file)
+filled-at files name at file bytes place is =
+    ap (λ file. slice_set files at (filled bytes file)) is ∙ sym (place.change (filled bytes) file)
 
-pub filled-has : (files : List MemFile) (name : List ℕ) (at : ℕ) (bytes : List ℕ) (file : MemFile) → IsPlaceOf files name at
+pub filled-has : (files : List MemFile) (name : List ℕ) (at : ℕ) (bytes : List ℕ) (file : MemFile)
+    → IsPlaceOf files name at
     → told_of (file_of (changed (filled bytes) files name) name) ≡ Holds bytes
 filled-has files name at bytes file place =
-    ap told_of (file_of-changed (filled bytes) files name (λ _. refl) ∙ ap (option_map (filled bytes)) (place.found file))
+    ap told_of (file_of-changed (filled bytes) files name (λ _. refl)
+    ∙ ap (option_map (filled bytes)) (place.found file))
 
 pub filled-others : (files : List MemFile) (name q : List ℕ) (bytes : List ℕ) → q ≢ name
     → told_of (file_of (changed (filled bytes) files name) q) ≡ told_of (file_of files q)
-filled-others files name q bytes other = ap told_of (file_of-changed-other (filled bytes) files name q (λ _. refl) other)
+filled-others files name q bytes other =
+    ap told_of (file_of-changed-other (filled bytes) files name q (λ _. refl) other)
 
-count-filled : (absent : ℕ) (bytes : List ℕ) (found : Option MemFile) → count_of absent (option_map (filled bytes) found) ≡ count_of absent found
+count-filled : (absent : ℕ) (bytes : List ℕ) (found : Option MemFile)
+    → count_of absent (option_map (filled bytes) found) ≡ count_of absent found
 count-filled absent bytes None = refl
 count-filled absent bytes (Some file) = refl
 
 pub filled-counts : (absent : ℕ) (files : List MemFile) (name q : List ℕ) (bytes : List ℕ)
     → count_of absent (file_of (changed (filled bytes) files name) q) ≡ count_of absent (file_of files q)
 filled-counts absent files name q bytes =
-    let P : List ℕ → Type 0 = λ q. count_of absent (file_of (changed (filled bytes) files name) q) ≡ count_of absent (file_of files q) in
-    by-name P name q (ap (count_of absent) (file_of-changed (filled bytes) files name (λ _. refl)) ∙ count-filled absent bytes (file_of files name))
+    let P : List ℕ → Type 0 = λ q. count_of absent (file_of (changed (filled bytes) files name) q)
+    ≡ count_of absent (file_of files q) in
+    by-name P name q (ap (count_of absent) (file_of-changed (filled bytes) files name (λ _. refl))
+    ∙ count-filled absent bytes (file_of files name))
     (λ other. ap (count_of absent) (file_of-changed-other (filled bytes) files name q (λ _. refl) other))
 
 -- a new file begins with the count of the names that aren't there
-pub push-counts : (absent : ℕ) (files : List MemFile) (file : MemFile) (q : List ℕ) → file_of files file.name ≡ None → file.faults ≡ absent
+pub push-counts : (absent : ℕ) (files : List MemFile) (file : MemFile) (q : List ℕ) → file_of files file.name ≡ None
+    → file.faults ≡ absent
     → count_of absent (file_of (files ++ file ∷ []) q) ≡ count_of absent (file_of files q)
 push-counts absent files file q none is =
-    let P : List ℕ → Type 0 = λ q. count_of absent (file_of (files ++ file ∷ []) q) ≡ count_of absent (file_of files q) in
-    by-name P file.name q (ap (count_of absent) (file_of-push files file file.name refl none) ∙ is ∙ sym (ap (count_of absent) none))
+    let P : List ℕ → Type 0 = λ q. count_of absent (file_of (files ++ file ∷ []) q)
+    ≡ count_of absent (file_of files q) in
+    by-name P file.name q (ap (count_of absent) (file_of-push files file file.name refl none) ∙ is
+    ∙ sym (ap (count_of absent) none))
     (λ other. ap (count_of absent) (file_of-push-other files file q other))

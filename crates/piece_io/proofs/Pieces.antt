@@ -1,5 +1,6 @@
 -- What has come of a file, and what a sink has taken, after one more piece.
-use Rattle.std.proofs.Common.{◌≡◌, ℕ, ◌+◌, ◌<◌, ◌≤◌, List, [], ◌++◌, length, take, drop, Option, Some, None, refl, ap, append_assoc, arith, sym, ◌∙◌, length-append, length-drop}
+use Rattle.std.proofs.Common.{◌≡◌, ℕ, ◌+◌, ◌<◌, ◌≤◌, List, [], ◌++◌, length, take, drop, Option, Some, None, refl, ap}
+use Rattle.std.proofs.Common.{append_assoc, arith, sym, ◌∙◌, length-append, length-drop}
 use Rattle.std.specs.Prelude.{Result, Ok, Err, OnOk, is_ok, true}
 use Rattle.std.proofs.Math.Seq.{take-add}
 use Rattle.std.proofs.lemmas.List.{length-take-le, take_all}
@@ -24,7 +25,8 @@ IsFront-append Untold read n into fits front gives = tt
 IsFront-append Missing read n into fits front gives = absurd gives
 IsFront-append (Holds bytes) read n into fits front gives =
     let here : length (take n into) ≡ n = length-take-le n into fits in
-    let total : length (read ++ take n into) ≡ length read + n = omega (arith, length-append read (take n into), here) in
+    let total : length (read ++ take n into) ≡ length read + n =
+    omega (arith, length-append read (take n into), here) in
     let within : length read + n ≤ length bytes = omega (arith, gives.0, front.0, length-drop (length read) bytes) in
     let joined : read ++ take n (drop (length read) bytes) ≡ take (length read + n) bytes =
     ap (λ xs. xs ++ take n (drop (length read) bytes)) front.1 ∙ sym (take-add (length read) n bytes) in
@@ -40,7 +42,8 @@ ReadsWhole-front (Holds bytes) most read into fits front gives =
     (front.1 ∙ take_all (length read) bytes all, omega arith)
 
 -- more bytes came than are allowed
-pub IsTooLong-front : (told : Told) (most : ℕ) (read : List ℕ) → most < length read → IsFront told read → IsTooLong told most (length read)
+pub IsTooLong-front : (told : Told) (most : ℕ) (read : List ℕ) → most < length read → IsFront told read
+    → IsTooLong told most (length read)
 IsTooLong-front Untold most read long front = tt
 IsTooLong-front Missing most read long front = let none : length read ≡ 0 = ap length front in omega arith
 IsTooLong-front (Holds bytes) most read long front = (omega (arith, front.0), front.0)
@@ -49,9 +52,11 @@ pub appended-take : (held : Option (List ℕ)) (done n : ℕ) (bytes : List ℕ)
     → appended (appended held (take done bytes)) (take n (drop done bytes)) ≡ appended held (take (done + n) bytes)
 appended-take None done n bytes = refl
 appended-take (Some before) done n bytes =
-    ap Some (append_assoc before (take done bytes) (take n (drop done bytes)) ∙ ap (λ xs. before ++ xs) (sym (take-add done n bytes)))
+    ap Some (append_assoc before (take done bytes) (take n (drop done bytes))
+    ∙ ap (λ xs. before ++ xs) (sym (take-add done n bytes)))
 
 -- what a call says of its `Ok` holds where the `Ok` of the same call under `map_err` was taken
-pub on_ok-map_err : {T U E D P : Type 0} (r : Result T E) (mapped : Result U D) (x : U) → is_ok mapped ≡ is_ok r → mapped ≡ Ok x → OnOk r P → P
+pub on_ok-map_err : {T U E D P : Type 0} (r : Result T E) (mapped : Result U D) (x : U) → is_ok mapped ≡ is_ok r
+    → mapped ≡ Ok x → OnOk r P → P
 on_ok-map_err (Ok y) mapped x same was holds = holds
 on_ok-map_err (Err e) mapped x same was holds = let t : is_ok mapped ≡ true = ap is_ok was in cc

@@ -23,15 +23,20 @@ only_of_members-other [] h = refl
 only_of_members-other (e ∷ []) h = absurd (h refl)
 only_of_members-other (e ∷ f ∷ es) h = refl
 
-only_of_members-one : (es : List (String Global × Value)) (e : String Global × Value) → length es ≡ 1 → slice_get es 0 ≡ Some e → only_of_members (members_view es) ≡ Some (string_bytes e.0, view e.1)
+only_of_members-one : (es : List (String Global × Value)) (e : String Global × Value) → length es ≡ 1 → slice_get es 0
+    ≡ Some e → only_of_members (members_view es) ≡ Some (string_bytes e.0, view e.1)
 only_of_members-one [] e h at = absurd (omega arith)
-only_of_members-one (f ∷ []) e h at = let same : f ≡ e = cc in ap (λ (m : String Global × Value). Some (string_bytes m.0, view m.1)) same
+only_of_members-one (f ∷ []) e h at = let same : f ≡ e =
+    cc in ap (λ (m : String Global × Value). Some (string_bytes m.0, view m.1)) same
 only_of_members-one (f ∷ g ∷ es) e h at = absurd (omega arith)
 
-pub no_only_member : (d : Data) (es : List (String Global × Value)) → Some (members_view es) ≡ as_object d → length es ≢ 1 → None ≡ only_member d
+pub no_only_member : (d : Data) (es : List (String Global × Value)) → Some (members_view es) ≡ as_object d
+    → length es ≢ 1 → None ≡ only_member d
 no_only_member d es e h = sym (only_member-object d (members_view es) e ∙ only_of_members-other es h)
 
-pub the_only_member : (d : Data) (es : List (String Global × Value)) (m : String Global × Value) → Some (members_view es) ≡ as_object d → length es ≡ 1 → slice_get es 0 ≡ Some m → Some (string_bytes m.0, view m.1) ≡ only_member d
+pub the_only_member : (d : Data) (es : List (String Global × Value)) (m : String Global × Value)
+    → Some (members_view es) ≡ as_object d → length es ≡ 1 → slice_get es 0 ≡ Some m
+    → Some (string_bytes m.0, view m.1) ≡ only_member d
 the_only_member d es m e h at = sym (only_member-object d (members_view es) e ∙ only_of_members-one es m h at)
 
 -- a list's items are those that it tells

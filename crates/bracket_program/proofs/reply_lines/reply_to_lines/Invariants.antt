@@ -14,7 +14,8 @@ invariant-loop-cut g l =
       writes : WritesUpTo (held l.fn.sink) (held l.sink)
           (replies_to settings l.fn.document.text (map cut_reading (given l.fn.cutter)))
           (replies_to settings l.document.text (map cut_reading (given l.cutter)));
-      text : text_behind settings l.document.text (map cut_reading (given l.cutter)) ≡ text_behind settings l.fn.document.text (map cut_reading (given l.fn.cutter));
+      text : text_behind settings l.document.text (map cut_reading (given l.cutter))
+          ≡ text_behind settings l.fn.document.text (map cut_reading (given l.fn.cutter));
       settings : l.document.settings ≡ settings;
       counts : faults l.sink ≡ faults l.fn.sink;
       ended : l.cutter.ended ≡ l.fn.cutter.ended;

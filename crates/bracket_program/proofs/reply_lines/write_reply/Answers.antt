@@ -6,4 +6,10 @@ pub returns-clause-front : goal.returns-clause-front
 returns-clause-front g c =
     let n = c.in-Err.ensures.prefix.0 in
     let line = c.as_slice.result.now in
-    record { part = take n line; rest = drop n line; whole = take-append-drop n line ∙ (c.as_slice.ensures ∙ c.in_ok-line.ensures); adds = c.in-Err.ensures.prefix.2 }
+    record {
+      part = take n line;
+      rest = drop n line;
+      whole =
+          take-append-drop n line ∙ (c.as_slice.ensures ∙ c.in_ok-line.ensures);
+      adds = c.in-Err.ensures.prefix.2;
+    }

@@ -1,4 +1,5 @@
-use Rattle.bracket_program.proofs.RunLaws.{run-done, run-words, run-files, run-front, run-unopened, run-completes_for, run-fills_for}
+use Rattle.bracket_program.proofs.RunLaws.{run-done, run-words, run-files, run-front, run-unopened, run-completes_for}
+use Rattle.bracket_program.proofs.RunLaws.{run-fills_for}
 use Rattle.bracket_program.proofs.run.run.Goals as goal
 
 pub returns-clause-done : goal.returns-clause-done

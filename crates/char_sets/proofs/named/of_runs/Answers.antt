@@ -5,6 +5,7 @@ use Rattle.char_sets.specs.Ranges.{rises, closed, IsSetOf}
 use Rattle.char_sets.specs.Named.{has_number}
 use Rattle.char_sets.proofs.Joined.{Joined, Joined-start, Joined-closed, Joined-more, Joined-gap, Joined-done}
 use Rattle.char_sets.proofs.Runs.{run-stretch, run-within, run-end}
+use Rattle.char_sets.proofs.Sets.{IfOk-same}
 use Rattle.char_sets.proofs.named.of_runs.Goals.{then-not-has+in_ok-close, else-not-has}
 use Rattle.char_sets.proofs.named.of_runs.Goals as goal
 
@@ -26,9 +27,10 @@ returns c =
     let p : ℕ → Bool = λ d. has_number c.args.numbers (run_value c.args.runs.now d) in
     let inv = c.loop-run.invariant in
     let ranges = closed c.loop-run.ranges.items c.loop-run.start c.loop-run.at in
-    subst (λ rs. IsSetOf rs p) (sym (c.of_ranges.ensures ∙ c.in_ok-close-2.ensures))
+    IfOk-same c.of_ranges.result c.close-2.new.ranges.items p c.of_ranges.ensures
+    (subst (λ rs. IsSetOf rs p) (sym c.in_ok-close-2.ensures)
     (Joined-done ranges c.loop-run.at p (Joined-closed c.loop-run.ranges.items c.loop-run.start c.loop-run.at p inv.so_far)
-    (run-end c.args.runs.now c.loop-run.run-index c.loop-run.at inv.place c.loop-run-test.false))
+    (run-end c.args.runs.now c.loop-run.run-index c.loop-run.at inv.place c.loop-run-test.false)))
 
 pub loop-run-preserved : goal.loop-run-preserved
 loop-run-preserved c =

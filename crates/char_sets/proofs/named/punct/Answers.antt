@@ -6,13 +6,13 @@ use Rattle.char_sets.proofs.Categories.{punctuation_numbers}
 use Rattle.char_sets.proofs.Sets.{IfOk-IsSetOf, in_set-codes}
 use Rattle.char_sets.proofs.named.punct.Goals as goal
 
-pub joined-requires-clause-second : goal.joined-requires-clause-second
+pub of_codes-requires : goal.of_codes-requires
 unfolding rises
-joined-requires-clause-second c = refl
+of_codes-requires c = refl
 
 pub returns : goal.returns
 returns c =
-    IfOk-IsSetOf c.joined.result _ _ c.joined.ensures
+    IfOk-IsSetOf c.union-2.result _ _ c.union-2.ensures
     (λ d lt. ap₂ ◌||◌
-    (ap (λ s. in_set s d) c.ranges-2.ensures.value ∙ c.in_ok-punctuation.ensures d lt ∙ punctuation_numbers (general_category d))
-    (in_set-codes (codes "$+<=>^`|~") d))
+    (c.in_ok-punctuation.ensures d lt ∙ punctuation_numbers (general_category d))
+    (ap (λ s. in_set s d) c.in_ok-of_codes.ensures ∙ in_set-codes (codes "$+<=>^`|~") d))

@@ -12,9 +12,11 @@ loop-taken-preserved g c =
     let told = g.F.Files.contents c.args.files.now c.args.name.now in
     let fits : come ≤ length into = omega (arith, c.in-Ok.ensures.within, c.loop-taken.invariant.room) in
     let added : c.append.new.self ≡ before ++ take come into =
-    on_ok-map_err c.append.result c.map_err-in-loop-taken.result c.in_ok-map_err.field-0 c.map_err-in-loop-taken.ensures.variant c.in_ok-map_err.was c.append.ensures.ok in
+    on_ok-map_err c.append.result c.map_err-in-loop-taken.result c.in_ok-map_err.field-0
+    c.map_err-in-loop-taken.ensures.variant c.in_ok-map_err.was c.append.ensures.ok in
     let longer : length c.append.new.self ≡ length before + come =
-    ap length added ∙ length-append before (take come into) ∙ ap (λ n. length before + n) (length-take-le come into fits) in
+    ap length added ∙ length-append before (take come into)
+    ∙ ap (λ n. length before + n) (length-take-le come into fits) in
     let gives : GivesFrom told (length before) come into =
     rw (← c.loop-taken.invariant.taken, ← c.loop-taken.invariant.contents c.args.name.now) c.in-Ok.ensures.gives in
     record {

@@ -11,7 +11,8 @@ loop-done-preserved g c =
     record {
       within = omega (arith, within, length-drop c.loop-done.done c.args.bytes.now);
       front = takes
-          ∙ ap (λ held. appended held (take c.in_ok-done.field-0 (drop c.loop-done.done c.args.bytes.now))) c.loop-done.invariant.front
+          ∙ ap (λ held. appended held (take c.in_ok-done.field-0 (drop c.loop-done.done c.args.bytes.now)))
+          c.loop-done.invariant.front
           ∙ appended-take (g.K.Sink.held c.args.sink.now) c.loop-done.done c.in_ok-done.field-0 c.args.bytes.now;
       counts = c.in_ok-done.ensures.counts ∙ c.loop-done.invariant.counts;
     }

@@ -13,5 +13,6 @@ returns-in-None c =
 pub loop-item-preserved : goal.loop-item-preserved
 loop-item-preserved c =
     let some : edit_in (view c.item-item.result) ≡ Some c.in-Some.edit = sym c.in_ok-edit.ensures ∙ c.in-Some.is in
-    edits_of_items-take_more c.args.items.now c.loop-item.item-index c.item-item.result c.loop-item.edits c.in-Some.edit c.loop-item-test.true c.item-item.is c.loop-item.invariant some
+    edits_of_items-take_more c.args.items.now c.loop-item.item-index c.item-item.result c.loop-item.edits
+    c.in-Some.edit c.loop-item-test.true c.item-item.is c.loop-item.invariant some
     ∙ ap Some (sym c.in_ok-push-in-Some.ensures.ok)

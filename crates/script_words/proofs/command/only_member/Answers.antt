@@ -13,4 +13,5 @@ pub returns : goal.returns
 returns c =
     let one : length c.in_ok-members.members.now.entries ≡ 1 = omega arith in
     ap (λ k. Some (k, view c.in_ok-key.member.now)) c.as_str.ensures.value
-    ∙ the_only_member _ c.in_ok-members.members.now.entries (c.in_ok-key.key.now, c.in_ok-key.member.now) c.in_ok-members.ensures one c.in_ok-key.ensures.first
+    ∙ the_only_member _ c.in_ok-members.members.now.entries (c.in_ok-key.key.now, c.in_ok-key.member.now)
+    c.in_ok-members.ensures one c.in_ok-key.ensures.first

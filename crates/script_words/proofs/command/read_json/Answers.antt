@@ -9,4 +9,5 @@ use Rattle.script_words.proofs.command.read_json.Goals as goal
 pub returns-in-Ok-from_str-clause-ok : goal.returns-in-Ok-from_str-clause-ok
 returns-in-Ok-from_str-clause-ok c =
     let text : is_utf8 c.args.line.now ≡ true = eq-eqb _ _ (utf8_valid_len-IsUtf8 _ c.in-Ok.ensures.cases.1) in
-    ap (λ b. if b then read c.args.line.now else None) text ∙ (ap read (sym c.in-Ok.ensures.cases.0) ∙ c.in-Ok-from_str.ensures.ok)
+    ap (λ b. if b then read c.args.line.now else None) text
+    ∙ (ap read (sym c.in-Ok.ensures.cases.0) ∙ c.in-Ok-from_str.ensures.ok)

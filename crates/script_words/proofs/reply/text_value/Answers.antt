@@ -5,7 +5,8 @@ use Rattle.std.proofs.lemmas.Str.{encodes-append}
 use Rattle.script_words.proofs.reply.text_value.Goals as goal
 
 -- one character more is its bytes more
-encode_utf8_all-take_more : (xs : List ℕ) (i c : ℕ) → i < length xs → c ≡ get_or xs i c → encode_utf8_all (take i xs) ++ encode_utf8 c ≡ encode_utf8_all (take (i + 1) xs)
+encode_utf8_all-take_more : (xs : List ℕ) (i c : ℕ) → i < length xs → c ≡ get_or xs i c
+    → encode_utf8_all (take i xs) ++ encode_utf8 c ≡ encode_utf8_all (take (i + 1) xs)
 encode_utf8_all-take_more xs i c h is =
     ap (λ x. encode_utf8_all (take i xs) ++ encode_utf8 x) is
     ∙ (ap (λ e. encode_utf8_all (take i xs) ++ e) (sym (append-nil (encode_utf8 (get_or xs i c))))

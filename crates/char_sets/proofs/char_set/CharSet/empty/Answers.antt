@@ -1,7 +1,6 @@
-use Rattle.std.proofs.Common.{ap, ◌∙◌}
-use Rattle.char_sets.specs.Ranges.{rises}
+use Rattle.std.proofs.lemmas.Nat.Bits.{bit_at-zero}
 use Rattle.char_sets.proofs.Rising.{rises-nil}
 use Rattle.char_sets.proofs.char_set.CharSet.empty.Goals as goal
 
-pub of_ranges-requires : goal.of_ranges-requires
-of_ranges-requires c = ap (rises 0) c.new.ensures.items ∙ rises-nil 0
+pub invariant_of-result : goal.invariant_of-result
+invariant_of-result c = (rises-nil 0, λ k lt. bit_at-zero k, λ k lt. bit_at-zero k)
