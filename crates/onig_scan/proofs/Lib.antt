@@ -1,3 +1,3 @@
 pub mod Budgets
-pub mod FrontLaws
+pub mod Runs
 pub mod Searches

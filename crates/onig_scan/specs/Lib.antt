@@ -1,3 +1,5 @@
 pub mod Answers
+pub mod Bounds
 pub mod Entries
 pub mod Fronts
+pub mod Runs

@@ -3,7 +3,8 @@ ghost use Rattle.std.specs.Rc.{rc_value};
 ghost use Rattle.pattern_defs.specs.Attempt.{capture_of, outcome_of, last_hit_captures, attempt as attempted};
 ghost use Rattle.onig_match.specs.Works.{IsPart};
 
-use crate::front::{Front, MOST_DEEP, front_of};
+use crate::front::Front;
+use crate::front_of::front_of_all;
 use onig_match::{Work, attempt};
 use pattern_defs::{Flags, Outcome};
 use pattern_tree::Pattern;
@@ -35,7 +36,7 @@ impl Entry {
     pub(crate) fn of(alloc: Global, pattern: &Rc<Pattern>) -> Result<Entry, AllocError>
         ensures { IfOk result (λ e. e ≡ rc_value pattern.now) }
     {
-        let front = front_of(alloc, pattern, pattern.list(pattern.top()), MOST_DEEP)?;
+        let front = front_of_all(alloc, pattern)?;
         let pattern = pattern.clone()?;
         Ok(Entry { pattern, front })
     }

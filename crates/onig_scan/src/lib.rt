@@ -1,8 +1,10 @@
 //! Searches over several patterns at once.
 #![tactic(auto)]
 
+mod bound;
 mod entry;
 mod front;
+mod front_of;
 pub mod laws;
 pub mod scanner;
 
