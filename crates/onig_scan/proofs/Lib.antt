@@ -1,3 +1,5 @@
+pub mod BoundLaws
 pub mod Budgets
+pub mod FrontLaws
 pub mod Runs
 pub mod Searches

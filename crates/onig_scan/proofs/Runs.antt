@@ -74,6 +74,30 @@ ends_kept (Hit to seen l) go rest left first others enough e later = ends_else (
 ends_kept (Miss l) go rest left first others enough e later = at_more (Miss l) left first (first + others) (omega arith) (record { ends = tt; fewer = e.fewer; cheap = e.cheap })
 ends_kept Spent go rest left first others enough e later = absurd e.ends
 
+pub ends_unkept : {P : ℕ → Type 0} (ran : Ran) (go : Going) (rest : List Todo) (left cost : ℕ) → EndsWith Nowhere ran left cost →
+    EndsWith P (kept_whole ran go rest) left cost
+ends_unkept (Hit to seen l) go rest left cost e = absurd e.ends
+ends_unkept (Miss l) go rest left cost e = record { ends = tt; fewer = e.fewer; cheap = e.cheap }
+ends_unkept Spent go rest left cost e = absurd e.ends
+
+-- several ways, one after the other
+abbrev pub AllEnd : Subject → (ℕ → Type 0) → (ℕ → Type 0) → List (List Todo) → ℕ → Type 0
+AllEnd s From P [] cost = Unit {0}
+AllEnd s From P (way ∷ ways) cost =
+    (first : ℕ) × (others : ℕ) × (first + others ≤ cost) × EndsFrom s From P way first × AllEnd s From P ways others
+
+pub ends_tries : (s : Subject) (From P : ℕ → Type 0) (ways : List (List Todo)) (cost fuel at : ℕ) (captures : Captures) (left : ℕ) →
+    AllEnd s From P ways cost → From at → cost ≤ left → left ≤ fuel → EndsWith P (tries (go_on s fuel) ways at captures left) left cost
+ends_tries s From P [] cost fuel at captures left all from enough fits = misses_now left cost
+ends_tries s From P (way ∷ ways) cost fuel at captures left all from enough fits =
+    let first : ℕ = all.0 in
+    let others : ℕ = all.1 in
+    let sum : first + others ≤ cost = all.2 in
+    at_more _ left (first + others) cost sum
+    (ends_else (go_on s fuel way at captures left) (λ l. tries (go_on s fuel) ways at captures l) left first others (omega arith)
+    ((all.3).ends fuel at captures left from (omega arith) fits)
+    (λ l enough' below. ends_tries s From P ways others fuel at captures l all.4 from enough' (omega arith)))
+
 -- runs from a place, by the first of what is still to match
 
 module _ {s : Subject} {From P : ℕ → Type 0} where
@@ -109,23 +133,6 @@ module _ {s : Subject} {From P : ℕ → Type 0} where
           let now : Ends (Hit at captures left) = record { ends = there at from; fewer = omega arith; cheap = omega arith } in
           subst Ends (sym (go_on-empty s fuel at captures left)) now
 
-  -- several ways, one after the other
-  abbrev pub AllEnd : List (List Todo) → ℕ → Type 0
-  AllEnd [] cost = Unit {0}
-  AllEnd (way ∷ ways) cost = (first : ℕ) × (others : ℕ) × (first + others ≤ cost) × EndsFrom s From P way first × AllEnd ways others
-
-  pub ends_tries : (ways : List (List Todo)) (cost fuel at : ℕ) (captures : Captures) (left : ℕ) → AllEnd ways cost →
-      From at → cost ≤ left → left ≤ fuel → EndsWith P (tries (go_on s fuel) ways at captures left) left cost
-  ends_tries [] cost fuel at captures left all from enough fits = misses_now left cost
-  ends_tries (way ∷ ways) cost fuel at captures left all from enough fits =
-      let first : ℕ = all.0 in
-      let others : ℕ = all.1 in
-      let sum : first + others ≤ cost = all.2 in
-      at_more _ left (first + others) cost sum
-      (ends_else (go_on s fuel way at captures left) (λ l. tries (go_on s fuel) ways at captures l) left first others (omega arith)
-      ((all.3).ends fuel at captures left from (omega arith) fits)
-      (λ l enough' below. ends_tries ways others fuel at captures l all.4 from enough' (omega arith)))
-
   pub ends_At : (anchor : Anchor) (rest : List Todo) (cost : ℕ) → EndsFrom s From P rest cost → EndsFrom s From P (Node (At anchor) ∷ rest) (cost + 1)
   ends_At anchor rest cost is =
       from_act (Node (At anchor)) rest cost (λ fuel at captures left from enough fits.
@@ -140,10 +147,10 @@ module _ {s : Subject} {From P : ℕ → Type 0} where
   ends_Group number body rest cost is =
       from_act (Node (Group number body)) rest cost (λ fuel at captures left here enough fits. (is at).ends fuel at captures left here enough fits)
 
-  pub ends_Choice : (ids : List ListId) (rest : List Todo) (cost : ℕ) → AllEnd (map (λ id. before s.lists id rest) ids) cost →
+  pub ends_Choice : (ids : List ListId) (rest : List Todo) (cost : ℕ) → AllEnd s From P (map (λ id. before s.lists id rest) ids) cost →
       EndsFrom s From P (Node (Choice ids) ∷ rest) (cost + 1)
   ends_Choice ids rest cost all =
-      from_act (Node (Choice ids)) rest cost (λ fuel at captures left here enough fits. ends_tries (map (λ id. before s.lists id rest) ids) cost fuel at captures left all here enough fits)
+      from_act (Node (Choice ids)) rest cost (λ fuel at captures left here enough fits. ends_tries s From P (map (λ id. before s.lists id rest) ids) cost fuel at captures left all here enough fits)
 
   pub ends_Ahead : {Q : ℕ → Type 0} (body : ListId) (wanted : Bool) (rest : List Todo) (first others : ℕ) →
       EndsFrom s From Q (before s.lists body []) first → EndsFrom s From P rest others → EndsFrom s From P (Node (Ahead body wanted) ∷ rest) (first + others + 1)
@@ -158,6 +165,12 @@ module _ {s : Subject} {From P : ℕ → Type 0} where
       from_act (Node (Ahead body true)) rest cost (λ fuel at captures left here enough fits.
       ends_unseen _ (go_on s fuel) rest at captures left cost (is.ends fuel at captures left here enough fits))
 
+  pub ends_whole : (body : ListId) (rest : List Todo) (cost : ℕ) →
+      EndsFrom s From Nowhere (before s.lists body []) cost → EndsFrom s From P (Node (Atomic body) ∷ rest) (cost + 1)
+  ends_whole body rest cost is =
+      from_act (Node (Atomic body)) rest cost (λ fuel at captures left here enough fits.
+      ends_unkept _ (go_on s fuel) rest left cost (is.ends fuel at captures left here enough fits))
+
   pub ends_Atomic : {Q : ℕ → Type 0} (body : ListId) (rest : List Todo) (first others : ℕ) → ((at to : ℕ) → From at → Q to → From to) →
       EndsFrom s From Q (before s.lists body []) first → EndsFrom s From P rest others → EndsFrom s From P (Node (Atomic body) ∷ rest) (first + others + 1)
   ends_Atomic body rest first others stays is after =
@@ -166,12 +179,12 @@ module _ {s : Subject} {From P : ℕ → Type 0} where
       (λ to seen l there enough' below. after.ends fuel to seen l (stays at to here there) enough' (omega arith)))
 
   pub ends_Repeat : (body : ListId) (least : ℕ) (most : Option ℕ) (greedy : Bool) (rest : List Todo) (cost : ℕ) →
-      ((at : ℕ) → From at → AllEnd (repeat_ways false (nat_lt 0 least) (is_greatest most 0) greedy
+      ((at : ℕ) → From at → AllEnd s From P (repeat_ways false (nat_lt 0 least) (is_greatest most 0) greedy
       (before s.lists body (Again body least most greedy 1 at ∷ rest)) rest) cost) →
       EndsFrom s From P (Node (Repeat body least most greedy) ∷ rest) (cost + 1)
   ends_Repeat body least most greedy rest cost all =
       from_act (Node (Repeat body least most greedy)) rest cost (λ fuel at captures left here enough fits.
-      ends_tries _ cost fuel at captures left (all at here) here enough fits)
+      ends_tries s From P _ cost fuel at captures left (all at here) here enough fits)
 
   -- an iteration that took nothing ends its repeat
   pub ends_stuck : (body : ListId) (least : ℕ) (most : Option ℕ) (greedy : Bool) (begun : ℕ) (rest : List Todo) (cost : ℕ) →
@@ -182,7 +195,7 @@ module _ {s : Subject} {From P : ℕ → Type 0} where
       let stuck : (at == begun) ≡ true = rw (same at here) (nat_same begun) in
       let more : List Todo = before s.lists body (Again body least most greedy 2 at ∷ rest) in
       let Ends : Bool → Type 0 = λ b. EndsWith P (tries (go_on s fuel) (repeat_ways b (nat_lt 1 least) (is_greatest most 1) greedy more rest) at captures left) left cost in
-      subst Ends (sym stuck) (ends_tries (rest ∷ []) cost fuel at captures left (cost, 0, omega arith, is, tt) here enough fits))
+      subst Ends (sym stuck) (ends_tries s From P (rest ∷ []) cost fuel at captures left (cost, 0, omega arith, is, tt) here enough fits))
     where
       nat_same : (n : ℕ) → (n == n) ≡ true
       nat_same n = grind arith

@@ -23,7 +23,8 @@ pub(crate) fn visits_of(pattern: &Pattern, nodes: &[PatNode], behind: u64, depth
         return Some(behind);
     };
     let after = visits_of(pattern, rest, behind, depth - 1)?;
-    visits_of_node(pattern, first, after, depth - 1)?.checked_add(1)
+    let all = visits_of_node(pattern, first, after, depth - 1)?;
+    all.checked_add(1)
 }
 
 /// The same of one node, where the visit for the node itself isn't counted.
@@ -33,24 +34,34 @@ fn visits_of_node(pattern: &Pattern, node: &PatNode, after: u64, depth: u32) -> 
     ensures { IfSome result (λ cost. IsBound pattern.now.lists (node.now ∷ []) after (cost + 1)) }
 {
     match node {
-        PatNode::One(_) | PatNode::At(_) | PatNode::Back { .. } => Some(after),
+        PatNode::One(_) => Some(after),
+        PatNode::At(_) => Some(after),
+        PatNode::Back { .. } => Some(after),
         PatNode::Choice(ids) => visits_of_ids(pattern, ids.as_slice(), after, depth),
         PatNode::Group { body, .. } => {
-            visits_of(pattern, pattern.list(*body), after.checked_add(1)?, depth)
+            let closed = after.checked_add(1)?;
+            visits_of(pattern, pattern.list(*body), closed, depth)
         }
         PatNode::Repeat { body, most, .. } => match most {
             Some(0) => Some(after),
             Some(1) => {
                 let again = after.checked_add(1)?;
-                visits_of(pattern, pattern.list(*body), again, depth)?.checked_add(after)
+                let once = visits_of(pattern, pattern.list(*body), again, depth)?;
+                once.checked_add(after)
             }
             _ => None,
         },
-        PatNode::Ahead { body, .. } | PatNode::Atomic(body) => {
-            visits_of(pattern, pattern.list(*body), 1, depth)?.checked_add(after)
+        PatNode::Ahead { body, .. } => {
+            let seen = visits_of(pattern, pattern.list(*body), 1, depth)?;
+            seen.checked_add(after)
+        }
+        PatNode::Atomic(body) => {
+            let inner = visits_of(pattern, pattern.list(*body), 1, depth)?;
+            inner.checked_add(after)
         }
         PatNode::Behind { arms, .. } => {
-            visits_of_arms(pattern, arms.as_slice(), depth)?.checked_add(after)
+            let seen = visits_of_arms(pattern, arms.as_slice(), depth)?;
+            seen.checked_add(after)
         }
     }
 }

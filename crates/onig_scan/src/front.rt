@@ -1,5 +1,5 @@
 ghost use Rattle.std.specs.Prelude.{◌≡◌, ◌≤◌, ◌+◌, [], true, false, IfOk, IfSome, IsSomeAnd, IsTrue};
-ghost use Rattle.onig_scan.specs.Fronts.{IsWithin, IsWithout};
+ghost use Rattle.onig_scan.specs.Fronts.{IsWithin, IsWithout, IsWider};
 
 use char_sets::CharSet;
 use std::alloc::{AllocError, Global};
@@ -92,4 +92,19 @@ pub(crate) fn joined(
     };
     let set = a.set.union(alloc, &b.set)?;
     Ok(Some(Front { set, cost, stays }))
+}
+
+/// The same of two ways on, each of which may stay.
+pub(crate) fn joined_ways(
+    alloc: Global,
+    a: &Front,
+    b: &Front,
+) -> Result<Option<Front>, AllocError>
+    ensures { IfOk result (λ o. IfSome o (λ f. IsWider a.now f × IsWider b.now f × (f.cost ≡ a.now.cost + b.now.cost))) }
+{
+    if a.stays {
+        joined(alloc, a, b, true)
+    } else {
+        joined(alloc, a, b, b.stays)
+    }
 }

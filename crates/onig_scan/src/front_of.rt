@@ -4,7 +4,7 @@ ghost use Rattle.pattern_defs.specs.declared.nodes.PatNode.TheVariants.{Ahead};
 ghost use Rattle.onig_scan.specs.Fronts.{IsFront, AreFronts, IsFrontOfOwn, IsFrontOfRepeat, IsFrontOfAll};
 
 use crate::bound::{MOST_ARMS, visits_of, visits_of_arms};
-use crate::front::{Front, copied, joined, with_visits};
+use crate::front::{Front, copied, joined, joined_ways, with_visits};
 use pattern_defs::{ListId, PatNode};
 use pattern_tree::Pattern;
 use std::alloc::{AllocError, Global};
@@ -110,8 +110,7 @@ fn front_of_ids(
         let Some(front) = front_of(alloc, pattern, pattern.list(*id), after, depth)? else {
             return Ok(None);
         };
-        let stays = all.stays || front.stays;
-        let Some(both) = joined(alloc, &all, &front, stays)? else {
+        let Some(both) = joined_ways(alloc, &all, &front)? else {
             return Ok(None);
         };
         all = both;
@@ -192,9 +191,6 @@ fn front_of_repeat(
     }
     match after {
         None => Ok(None),
-        Some(after) => {
-            let stays = inner.stays || after.stays;
-            joined(alloc, &inner, after, stays)
-        }
+        Some(after) => joined_ways(alloc, &inner, after),
     }
 }
