@@ -34,17 +34,21 @@ own_bound lists body cost is text flags = is.bound text flags [] (ends_empty eve
 
 pub IsBound-One : (lists : NodeLists) (set : List CharRange) (after : ℕ) → IsBound lists (One set ∷ []) after (after + 1)
 IsBound-One lists set after =
-    record { bound = λ text flags rest is. from_act (Node (One set)) rest after (λ fuel at captures left here enough fits.
-      ends_where (is_char (in_set set) (slice_get text at)) (go_on (subject_of lists text flags) fuel) rest (at + 1) captures left after
-      (λ _. is.ends fuel (at + 1) captures left tt enough fits)) }
+    record {
+      bound = λ text flags rest is. from_act (Node (One set)) rest after (λ fuel at captures left here enough fits.
+          ends_where (is_char (in_set set) (slice_get text at)) (go_on (subject_of lists text flags) fuel) rest (at + 1) captures left after
+          (λ _. is.ends fuel (at + 1) captures left tt enough fits));
+    }
 
 pub IsBound-At : (lists : NodeLists) (anchor : Anchor) (after : ℕ) → IsBound lists (At anchor ∷ []) after (after + 1)
 IsBound-At lists anchor after = record { bound = λ text flags rest is. ends_At anchor rest after is }
 
 pub IsBound-Back : (lists : NodeLists) (number : ℕ) (fold : Bool) (after : ℕ) → IsBound lists (Back number fold ∷ []) after (after + 1)
 IsBound-Back lists number fold after =
-    record { bound = λ text flags rest is. from_act (Node (Back number fold)) rest after (λ fuel at captures left here enough fits.
-      by_taken text flags rest is fuel at captures left (capture_of captures number) enough fits) }
+    record {
+      bound = λ text flags rest is. from_act (Node (Back number fold)) rest after (λ fuel at captures left here enough fits.
+          by_taken text flags rest is fuel at captures left (capture_of captures number) enough fits);
+    }
   where
     by_taken : (text : List ℕ) (flags : Flags) (rest : List Todo) → IsBoundOf (subject_of lists text flags) rest after →
         (fuel at : ℕ) (captures : Captures) (left : ℕ) (taken : Option Place) → after ≤ left → left ≤ fuel →
@@ -57,9 +61,11 @@ IsBound-Back lists number fold after =
 pub IsBound-Group : (lists : NodeLists) (number : ℕ) (body : ListId) (after closed cost : ℕ) → closed ≡ after + 1 →
     IsBound lists (nodes_of lists body) closed cost → IsBound lists (Group number body ∷ []) after (cost + 1)
 IsBound-Group lists number body after closed cost close is =
-    record { bound = λ text flags rest it. ends_Group number body rest cost (λ at.
-      let Bound : ℕ → Type 0 = λ c. IsBoundOf (subject_of lists text flags) (Close number at ∷ rest) c in
-      is.bound text flags (Close number at ∷ rest) (subst Bound (sym close) (ends_Close number at rest after it))) }
+    record {
+      bound = λ text flags rest it. ends_Group number body rest cost (λ at.
+          let Bound : ℕ → Type 0 = λ c. IsBoundOf (subject_of lists text flags) (Close number at ∷ rest) c in
+          is.bound text flags (Close number at ∷ rest) (subst Bound (sym close) (ends_Close number at rest after it)));
+    }
 
 pub IsBound-Ahead : (lists : NodeLists) (body : ListId) (wanted : Bool) (after cost : ℕ) →
     IsBound lists (nodes_of lists body) 1 cost → IsBound lists (Ahead body wanted ∷ []) after (cost + after + 1)
@@ -117,10 +123,12 @@ arms_bound lists text flags (arm ∷ arms) cost fuel at captures left are enough
 pub IsBound-Behind : (lists : NodeLists) (arms : List Arm) (wanted : Bool) (after cost : ℕ) → AreArmBounds lists arms cost →
     IsBound lists (Behind arms wanted ∷ []) after (cost + after + 1)
 IsBound-Behind lists arms wanted after cost are =
-    record { bound = λ text flags rest it. from_act (Node (Behind arms wanted)) rest (cost + after) (λ fuel at captures left here enough fits.
-      ends_looked wanted _ (go_on (subject_of lists text flags) fuel) rest at captures left cost after enough
-      (arms_bound lists text flags arms cost fuel at captures left are (omega arith) fits)
-      (λ seen l enough' below. it.ends fuel at seen l tt enough' (omega arith))) }
+    record {
+      bound = λ text flags rest it. from_act (Node (Behind arms wanted)) rest (cost + after) (λ fuel at captures left here enough fits.
+          ends_looked wanted _ (go_on (subject_of lists text flags) fuel) rest at captures left cost after enough
+          (arms_bound lists text flags arms cost fuel at captures left are (omega arith) fits)
+          (λ seen l enough' below. it.ends fuel at seen l tt enough' (omega arith)));
+    }
 
 -- repeats that are done at most once
 
@@ -148,11 +156,13 @@ again_bound lists body least greedy begun after text flags rest few it =
 pub IsBound-once : (lists : NodeLists) (body : ListId) (least : ℕ) (greedy : Bool) (after again cost : ℕ) → IsLeastWithin least (Some 1) →
     again ≡ after + 1 → IsBound lists (nodes_of lists body) again cost → IsBound lists (Repeat body least (Some 1) greedy ∷ []) after (cost + after + 1)
 IsBound-once lists body least greedy after again cost few one is =
-    record { bound = λ text flags rest it. ends_Repeat body least (Some 1) greedy rest (cost + after) (λ at here.
-      let Bound : ℕ → Type 0 = λ c. IsBoundOf (subject_of lists text flags) (Again body least (Some 1) greedy 1 at ∷ rest) c in
-      by_kind text flags rest it (before lists body (Again body least (Some 1) greedy 1 at ∷ rest))
-      (is.bound text flags (Again body least (Some 1) greedy 1 at ∷ rest)
-      (subst Bound (sym one) (again_bound lists body least greedy at after text flags rest few it))) (nat_lt 0 least) greedy) }
+    record {
+      bound = λ text flags rest it. ends_Repeat body least (Some 1) greedy rest (cost + after) (λ at here.
+          let Bound : ℕ → Type 0 = λ c. IsBoundOf (subject_of lists text flags) (Again body least (Some 1) greedy 1 at ∷ rest) c in
+          by_kind text flags rest it (before lists body (Again body least (Some 1) greedy 1 at ∷ rest))
+          (is.bound text flags (Again body least (Some 1) greedy 1 at ∷ rest)
+          (subst Bound (sym one) (again_bound lists body least greedy at after text flags rest few it))) (nat_lt 0 least) greedy);
+    }
   where
     by_kind : (text : List ℕ) (flags : Flags) (rest : List Todo) → IsBoundOf (subject_of lists text flags) rest after →
         (more : List Todo) → IsBoundOf (subject_of lists text flags) more cost → (below kind : Bool) →

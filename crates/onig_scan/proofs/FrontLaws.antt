@@ -78,10 +78,12 @@ IsFront-cons lists first nodes behind (Some a) f cost others is =
 pub IsFront-One : (lists : NodeLists) (set : List CharRange) (nodes : List PatNode) (behind : Option Front) (stays : Bool) (cost : ℕ) →
     IsFront lists (One set ∷ nodes) behind (record { set = set; cost = cost; stays = stays }) 1
 IsFront-One lists set nodes behind stays cost =
-    record { front = λ text flags place rest it. from_act (Node (One set)) (map Node nodes ++ rest) 0 (λ fuel at captures left bare enough fits.
-      let none : is_char (in_set set) (slice_get text at) ≡ false = rw bare.here bare.bare.without in
-      ends_where (is_char (in_set set) (slice_get text at)) (go_on (subject_of lists text flags) fuel) (map Node nodes ++ rest) (at + 1) captures left 0
-      (λ there. absurd (false≢true (sym none ∙ there)))) }
+    record {
+      front = λ text flags place rest it. from_act (Node (One set)) (map Node nodes ++ rest) 0 (λ fuel at captures left bare enough fits.
+          let none : is_char (in_set set) (slice_get text at) ≡ false = rw bare.here bare.bare.without in
+          ends_where (is_char (in_set set) (slice_get text at)) (go_on (subject_of lists text flags) fuel) (map Node nodes ++ rest) (at + 1) captures left 0
+          (λ there. absurd (false≢true (sym none ∙ there))));
+    }
 
 pub IsFront-At : (lists : NodeLists) (anchor : Anchor) (f : Front) → IsFront lists (At anchor ∷ []) (Some f) f (f.cost + 1)
 IsFront-At lists anchor f = record { front = λ text flags place rest it. ends_At anchor rest f.cost it }
@@ -100,9 +102,11 @@ IsFront-Group lists number body after None f close is =
     record { front = λ text flags place rest it. ends_Group number body rest f.cost (λ at. is.front text flags place (Close number at ∷ rest) tt) }
 IsFront-Group lists number body None (Some g) f close is = absurd close
 IsFront-Group lists number body (Some a) (Some g) f close is =
-    record { front = λ text flags place rest it. ends_Group number body rest f.cost (λ at.
-      let Behind : Front → Type 0 = λ b. IsFrontOf (subject_of lists text flags) place (Close number at ∷ rest) b b.cost in
-      is.front text flags place (Close number at ∷ rest) (subst Behind (sym close) (ends_Close number at rest a.cost it))) }
+    record {
+      front = λ text flags place rest it. ends_Group number body rest f.cost (λ at.
+          let Behind : Front → Type 0 = λ b. IsFrontOf (subject_of lists text flags) place (Close number at ∷ rest) b b.cost in
+          is.front text flags place (Close number at ∷ rest) (subst Behind (sym close) (ends_Close number at rest a.cost it)));
+    }
 
 all_fronts : (lists : NodeLists) (ids : List ListId) (behind : Option Front) (f : Front) (cost : ℕ) → AreFronts lists ids behind f cost →
     (text : List ℕ) (flags : Flags) (place : ℕ) (rest : List Todo) → IsBehind (subject_of lists text flags) place rest behind →
@@ -124,10 +128,12 @@ pub IsFront-Ahead : (lists : NodeLists) (body : ListId) (wanted : Bool) (after :
 IsFront-Ahead lists body wanted None f visits bound is = absurd is
 IsFront-Ahead lists body wanted (Some a) f visits bound is =
     let Found : Front → Type 0 = λ g. IsFront lists (Ahead body wanted ∷ []) (Some a) g (g.cost + 1) in
-    subst Found (sym is) (record { front = λ text flags place rest it.
-      let one : EndsFrom (subject_of lists text flags) (IsBare a.set text place) (Stays a.stays place) (Node (Ahead body wanted) ∷ rest) (visits + a.cost + 1) =
-      ends_Ahead body wanted rest visits a.cost (ends_narrow (before lists body []) visits (λ at bare. tt) (λ to end. end) (own_bound lists body visits bound text flags)) it in
-      more_cost _ _ _ _ (visits + a.cost + 1) (a.cost + visits + 1) (omega arith) one })
+    subst Found (sym is) (record {
+      front = λ text flags place rest it.
+          let one : EndsFrom (subject_of lists text flags) (IsBare a.set text place) (Stays a.stays place) (Node (Ahead body wanted) ∷ rest) (visits + a.cost + 1) =
+          ends_Ahead body wanted rest visits a.cost (ends_narrow (before lists body []) visits (λ at bare. tt) (λ to end. end) (own_bound lists body visits bound text flags)) it in
+          more_cost _ _ _ _ (visits + a.cost + 1) (a.cost + visits + 1) (omega arith) one;
+    })
   where
     more_cost : (s : Subject) (From P : ℕ → Type 0) (todo : List Todo) (cost more : ℕ) → cost ≡ more → EndsFrom s From P todo cost → EndsFrom s From P todo more
     more_cost s From P todo cost more e is = let Ends : ℕ → Type 0 = λ n. EndsFrom s From P todo n in subst Ends e is
@@ -138,13 +144,15 @@ pub IsFront-Behind : (lists : NodeLists) (arms : List Arm) (wanted : Bool) (afte
 IsFront-Behind lists arms wanted None f visits bound is = absurd is
 IsFront-Behind lists arms wanted (Some a) f visits bound is =
     let Found : Front → Type 0 = λ g. IsFront lists (Behind arms wanted ∷ []) (Some a) g (g.cost + 1) in
-    subst Found (sym is) (record { front = λ text flags place rest it.
-      from_act (Node (Behind arms wanted)) rest (a.cost + visits) (λ fuel at captures left bare enough fits.
-      let enough' : visits + a.cost ≤ left = omega arith in
-      at_more _ left (visits + a.cost) (a.cost + visits) (omega arith)
-      (ends_looked wanted _ (go_on (subject_of lists text flags) fuel) rest at captures left visits a.cost enough'
-      (arms_bound lists text flags arms visits fuel at captures left bound (omega arith) fits)
-      (λ seen l more below. it.ends fuel at seen l bare more (omega arith)))) })
+    subst Found (sym is) (record {
+      front = λ text flags place rest it.
+          from_act (Node (Behind arms wanted)) rest (a.cost + visits) (λ fuel at captures left bare enough fits.
+          let enough' : visits + a.cost ≤ left = omega arith in
+          at_more _ left (visits + a.cost) (a.cost + visits) (omega arith)
+          (ends_looked wanted _ (go_on (subject_of lists text flags) fuel) rest at captures left visits a.cost enough'
+          (arms_bound lists text flags arms visits fuel at captures left bound (omega arith) fits)
+          (λ seen l more below. it.ends fuel at seen l bare more (omega arith))));
+    })
 
 -- lists that are run by themselves
 
@@ -177,11 +185,15 @@ pub IsFrontOfOwn-none : (lists : NodeLists) (body : ListId) (inner a f : Front) 
     IsFront lists (nodes_of lists body) (Some (record { set = []; cost = 1; stays = true })) inner inner.cost → IsFrontOfOwn lists body (Some a) f f.cost
 IsFrontOfOwn-none lists body inner a f inside behind stays cost own =
     record {
-      atomic = record { front = λ text flags place rest it. at_cost _ _ _ _
-          (ends_Atomic body rest inner.cost a.cost (λ at to bare there. record { here = there; bare = bare.bare })
-          (first text flags place) (others text flags place rest it)) };
-      ahead = record { front = λ text flags place rest it. at_cost _ _ _ _
-          (ends_Ahead body true rest inner.cost a.cost (first text flags place) (others text flags place rest it)) };
+      atomic = record {
+        front = λ text flags place rest it. at_cost _ _ _ _
+            (ends_Atomic body rest inner.cost a.cost (λ at to bare there. record { here = there; bare = bare.bare })
+            (first text flags place) (others text flags place rest it));
+      };
+      ahead = record {
+        front = λ text flags place rest it. at_cost _ _ _ _
+            (ends_Ahead body true rest inner.cost a.cost (first text flags place) (others text flags place rest it));
+      };
     }
   where
     first : (text : List ℕ) (flags : Flags) (place : ℕ) →
@@ -227,11 +239,15 @@ pub IsFrontOfRepeat-some : (lists : NodeLists) (body : ListId) (least : ℕ) (af
     IfSome again (λ g. IsSomeAnd after (λ a. g ≡ record a { cost = a.cost + 1 })) →
     IsFront lists (nodes_of lists body) again f f.cost → IsFrontOfRepeat lists body least after f f.cost
 IsFrontOfRepeat-some lists body least after again f some more is =
-    record { is = λ most greedy. record { front = λ text flags place rest it.
-      ends_Repeat body least most greedy rest f.cost (λ at bare.
-      by_case (subject_of lists text flags) (IsBare f.set text place) (Stays f.stays place) (before lists body (Again body least most greedy 1 at ∷ rest)) rest
-      (is.front text flags place (Again body least most greedy 1 at ∷ rest) (again_behind lists body least most greedy text flags place at rest after again more bare.here it))
-      (nat_lt 0 least) (lt-ltb 0 least some) (is_greatest most 0) greedy) } }
+    record {
+      is = λ most greedy. record {
+        front = λ text flags place rest it.
+            ends_Repeat body least most greedy rest f.cost (λ at bare.
+            by_case (subject_of lists text flags) (IsBare f.set text place) (Stays f.stays place) (before lists body (Again body least most greedy 1 at ∷ rest)) rest
+            (is.front text flags place (Again body least most greedy 1 at ∷ rest) (again_behind lists body least most greedy text flags place at rest after again more bare.here it))
+            (nat_lt 0 least) (lt-ltb 0 least some) (is_greatest most 0) greedy);
+      };
+    }
   where
     by_case : (s : Subject) (From P : ℕ → Type 0) (more rest : List Todo) → EndsFrom s From P more f.cost → (below : Bool) → below ≡ true → (greatest greedy : Bool) →
         AllEnd s From P (repeat_ways false below greatest greedy more rest) f.cost
@@ -243,13 +259,17 @@ pub IsFrontOfRepeat-none : (lists : NodeLists) (body : ListId) (least : ℕ) (a 
     IfSome again (λ g. g ≡ record a { cost = a.cost + 1 }) → IsWider inner f → IsWider a f → f.cost ≡ inner.cost + a.cost →
     IsFront lists (nodes_of lists body) again inner inner.cost → IsFrontOfRepeat lists body least (Some a) f f.cost
 IsFrontOfRepeat-none lists body least a inner f again more inside behind cost is =
-    record { is = λ most greedy. record { front = λ text flags place rest it.
-      ends_Repeat body least most greedy rest f.cost (λ at bare.
-      by_case (subject_of lists text flags) (IsBare f.set text place) (Stays f.stays place) (before lists body (Again body least most greedy 1 at ∷ rest)) rest
-      (front_wider (subject_of lists text flags) place _ inner f inner.cost inside
-      (is.front text flags place (Again body least most greedy 1 at ∷ rest) (again_behind lists body least most greedy text flags place at rest (Some a) again more bare.here it)))
-      (front_wider (subject_of lists text flags) place rest a f a.cost behind it)
-      (nat_lt 0 least) (is_greatest most 0) greedy) } }
+    record {
+      is = λ most greedy. record {
+        front = λ text flags place rest it.
+            ends_Repeat body least most greedy rest f.cost (λ at bare.
+            by_case (subject_of lists text flags) (IsBare f.set text place) (Stays f.stays place) (before lists body (Again body least most greedy 1 at ∷ rest)) rest
+            (front_wider (subject_of lists text flags) place _ inner f inner.cost inside
+            (is.front text flags place (Again body least most greedy 1 at ∷ rest) (again_behind lists body least most greedy text flags place at rest (Some a) again more bare.here it)))
+            (front_wider (subject_of lists text flags) place rest a f a.cost behind it)
+            (nat_lt 0 least) (is_greatest most 0) greedy);
+      };
+    }
   where
     fits : inner.cost + a.cost ≤ f.cost
     fits = omega (arith, cost)
@@ -265,13 +285,15 @@ IsFrontOfRepeat-none lists body least a inner f again more inside behind cost is
 
 pub IsFrontOfAll-top : (tree : Tree) (f : Front) → f.stays ≡ false → IsFront tree.lists (nodes_of tree.lists tree.top) None f f.cost → IsFrontOfAll tree f.set f.cost
 IsFrontOfAll-top tree f stays is =
-    record { misses = λ text at flags budget without enough.
-      let none : Captures = replicate (tree.groups + 1) None in
-      let ran : Ran = go_on (subject_of tree.lists text flags) budget (before tree.lists tree.top []) at none budget in
-      let ends : EndsWith (Stays f.stays at) ran budget f.cost =
-      (is.front text flags at [] tt).ends budget at none budget (record { here = refl; bare = without }) enough (omega arith) in
-      let Ends : Bool → Type 0 = λ b. EndsWith (Stays b at) ran budget f.cost in
-      by_ran at budget ran (subst Ends stays ends) }
+    record {
+      misses = λ text at flags budget without enough.
+          let none : Captures = replicate (tree.groups + 1) None in
+          let ran : Ran = go_on (subject_of tree.lists text flags) budget (before tree.lists tree.top []) at none budget in
+          let ends : EndsWith (Stays f.stays at) ran budget f.cost =
+          (is.front text flags at [] tt).ends budget at none budget (record { here = refl; bare = without }) enough (omega arith) in
+          let Ends : Bool → Type 0 = λ b. EndsWith (Stays b at) ran budget f.cost in
+          by_ran at budget ran (subst Ends stays ends);
+    }
   where
     by_ran : (at budget : ℕ) (ran : Ran) → EndsWith (Stays false at) ran budget f.cost → (rest : ℕ) × (with_whole at ran ≡ Miss rest)
     by_ran at budget (Hit to captures left) e = absurd e.ends

@@ -17,33 +17,6 @@ use Rattle.onig_scan.specs.Answers.{IsAmong, IfAt}
 
 -- places, one after the other
 
-some_answers : (r : Ran) (p : Pair) → is_no_miss r ≡ true → found.Nowhere ≡ answer_by p r → ⊥
-some_answers (Hit at captures left) p is e = cc
-some_answers (Miss left) p is e = cc
-some_answers Spent p is e = cc
-
-find_passes : {X : Type 0} (p : X → Bool) (xs : List X) (x : X) → find p xs ≡ Some x → p x ≡ true
-find_passes p [] x e = absurd (cc)
-find_passes {X = X} p (y ∷ ys) x e = by_test (p y) refl (find_passes p ys x)
-  where
-    by_test : (b : Bool) → p y ≡ b → (find p ys ≡ Some x → p x ≡ true) → p x ≡ true
-    by_test true t later =
-        let first : find p (y ∷ ys) ≡ Some y = rw t refl in
-        let same : y ≡ x = cc in
-        let P : X → Type 0 = λ z. p z ≡ true in
-        subst P same t
-    by_test false t later =
-        let rest : find p (y ∷ ys) ≡ find p ys = rw t refl in
-        later (sym rest ∙ e)
-
--- nothing is found at a place only where each attempt there is a miss
-pub first_of-nowhere : (all : List Pair) (text : List ℕ) (flags : Flags) (budget : ℕ) → found.Nowhere ≡ found_at text flags budget (first_of all text flags budget) → first_of all text flags budget ≡ None
-first_of-nowhere all text flags budget e = by_first (first_of all text flags budget) refl e
-  where
-    by_first : (o : Option Pair) → first_of all text flags budget ≡ o → found.Nowhere ≡ found_at text flags budget o → o ≡ None
-    by_first None is e = refl
-    by_first (Some p) is e = absurd (some_answers (tried text flags budget p) p (find_passes _ all p is) e)
-
 -- the places from one on are that one and those behind it
 pub first_pair-step : (trees : List Tree) (text : List ℕ) (at : ℕ) (flags : Flags) (budget : ℕ) → at ≤ length text
     → first_pair trees text at flags budget ≡ option_or (first_of (pairs_at 0 trees at) text flags budget) (first_pair trees text (at + 1) flags budget)
@@ -54,25 +27,19 @@ first_pair-step trees text at flags budget h =
     ap (λ all. first_of all text flags budget) split ∙ find-append (λ pair. is_no_miss (tried text flags budget pair)) (pairs_at 0 trees at) (pairs trees text (at + 1))
 
 -- where a place decides, the search is over
-pub first_pair-decided : (trees : List Tree) (text : List ℕ) (from at : ℕ) (flags : Flags) (budget : ℕ) (result : Found) → at ≤ length text
+pub first_pair-decided : (trees : List Tree) (text : List ℕ) (from at : ℕ) (flags : Flags) (budget : ℕ) (pair : Pair) → at ≤ length text
     → first_pair trees text at flags budget ≡ first_pair trees text from flags budget
-    → result ≡ found_at text flags budget (first_of (pairs_at 0 trees at) text flags budget)
-    → (result ≡ found.Nowhere → ⊥)
+    → first_of (pairs_at 0 trees at) text flags budget ≡ Some pair
     → first_of (pairs_at 0 trees at) text flags budget ≡ first_pair trees text from flags budget
-first_pair-decided trees text from at flags budget result h missed is decided =
-    by_first (first_of (pairs_at 0 trees at) text flags budget) refl
-  where
-    by_first : (o : Option Pair) → first_of (pairs_at 0 trees at) text flags budget ≡ o → first_of (pairs_at 0 trees at) text flags budget ≡ first_pair trees text from flags budget
-    by_first None e = absurd (decided (is ∙ ap (found_at text flags budget) e))
-    by_first (Some p) e = e ∙ sym (sym missed ∙ first_pair-step trees text at flags budget h ∙ ap (λ o. option_or o (first_pair trees text (at + 1) flags budget)) e)
+first_pair-decided trees text from at flags budget pair h missed is =
+    is ∙ sym (sym missed ∙ first_pair-step trees text at flags budget h ∙ ap (λ o. option_or o (first_pair trees text (at + 1) flags budget)) is)
 
 -- where it doesn't, the search goes on behind it
 pub first_pair-missed : (trees : List Tree) (text : List ℕ) (from at : ℕ) (flags : Flags) (budget : ℕ) → at ≤ length text
     → first_pair trees text at flags budget ≡ first_pair trees text from flags budget
-    → found.Nowhere ≡ found_at text flags budget (first_of (pairs_at 0 trees at) text flags budget)
+    → first_of (pairs_at 0 trees at) text flags budget ≡ None
     → first_pair trees text (at + 1) flags budget ≡ first_pair trees text from flags budget
-first_pair-missed trees text from at flags budget h missed is =
-    let none : first_of (pairs_at 0 trees at) text flags budget ≡ None = first_of-nowhere (pairs_at 0 trees at) text flags budget is in
+first_pair-missed trees text from at flags budget h missed none =
     sym (sym missed ∙ first_pair-step trees text at flags budget h ∙ ap (λ o. option_or o (first_pair trees text (at + 1) flags budget)) none)
 
 -- what is known of the answer at one place holds of a search that goes by this place

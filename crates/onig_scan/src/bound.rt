@@ -12,7 +12,12 @@ pub(crate) const MOST_ARMS: usize = 64;
 /// How many visits nodes take at most with what stands behind them, which takes `behind` by itself, in any text. There
 /// is no such number where something may be repeated more than once.
 #[cycle(bounds)]
-pub(crate) fn visits_of(pattern: &Pattern, nodes: &[PatNode], behind: u64, depth: u32) -> Option<u64>
+pub(crate) fn visits_of(
+    pattern: &Pattern,
+    nodes: &[PatNode],
+    behind: u64,
+    depth: u32,
+) -> Option<u64>
     requires { AreNodes (length pattern.now.lists) pattern.now.groups nodes.now }
     ensures { IfSome result (λ cost. IsBound pattern.now.lists nodes.now behind cost) }
 {

@@ -1,5 +1,6 @@
 ghost use Rattle.std.specs.Prelude.{◌≡◌, ◌≤◌, ◌+◌, [], true, false, IfOk, IfSome, IsSomeAnd, IsTrue};
 ghost use Rattle.onig_scan.specs.Fronts.{IsWithin, IsWithout, IsWider};
+ghost use Rattle.onig_scan.specs.Rows.{HasNone};
 
 use char_sets::CharSet;
 use std::alloc::{AllocError, Global};
@@ -33,6 +34,17 @@ impl Front {
             set: CharSet::empty(alloc),
             cost: 1,
             stays: true,
+        }
+    }
+
+    /// Whether a character of this kind may be in the set.
+    pub(crate) fn may_have(&self, class: usize) -> bool
+        ensures { (result ≡ false) → HasNone self.now.set class }
+    {
+        if class < 128 {
+            self.set.has(class as u8 as char)
+        } else {
+            class == 128
         }
     }
 
@@ -95,11 +107,7 @@ pub(crate) fn joined(
 }
 
 /// The same of two ways on, each of which may stay.
-pub(crate) fn joined_ways(
-    alloc: Global,
-    a: &Front,
-    b: &Front,
-) -> Result<Option<Front>, AllocError>
+pub(crate) fn joined_ways(alloc: Global, a: &Front, b: &Front) -> Result<Option<Front>, AllocError>
     ensures { IfOk result (λ o. IfSome o (λ f. IsWider a.now f × IsWider b.now f × (f.cost ≡ a.now.cost + b.now.cost))) }
 {
     if a.stays {

@@ -16,7 +16,13 @@ const MOST_DEEP: u32 = 32;
 pub(crate) fn front_of_all(alloc: Global, pattern: &Pattern) -> Result<Option<Front>, AllocError>
     ensures { IfOk result (λ o. IfSome o (λ f. IsFrontOfAll pattern.now f.set f.cost)) }
 {
-    match front_of(alloc, pattern, pattern.list(pattern.top()), &None, MOST_DEEP)? {
+    match front_of(
+        alloc,
+        pattern,
+        pattern.list(pattern.top()),
+        &None,
+        MOST_DEEP,
+    )? {
         Some(front) if !front.stays => Ok(Some(front)),
         _ => Ok(None),
     }
