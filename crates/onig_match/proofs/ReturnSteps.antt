@@ -1,25 +1,30 @@
 -- How going back, and an end of an attempt of its own, lead on.
-use Rattle.std.proofs.Common.{◌≡◌, ℕ, zero, suc, ◌+◌, ◌-◌, ◌<◌, ◌≤◌, List, [], ◌∷◌, length, drop, cond, refl, sym, ap, subst, ◌∙◌, arith}
+use Rattle.std.proofs.Common.{◌≡◌, ℕ, zero, suc, ◌+◌, ◌-◌, ◌<◌, ◌≤◌, List, [], ◌∷◌, length, drop, cond, refl, sym, ap}
+use Rattle.std.proofs.Common.{subst, ◌∙◌, arith}
 use Rattle.std.specs.Prelude.{Bool, true, false, nat_le, filter, Some, None, slice_get}
 use Rattle.std.proofs.lemmas.Bool.{le-leb}
 use Rattle.pattern_defs.specs.declared.nodes.ListId.{ListId}
 use Rattle.pattern_defs.specs.declared.nodes.Arm.{Arm}
-use Rattle.pattern_defs.specs.Attempt.{Subject, Captures, Ran, Hit, Miss, Spent, Going, before, or_else, where_holds, looked, arms_run}
+use Rattle.pattern_defs.specs.Attempt.{Subject, Captures, Ran, Hit, Miss, Spent, Going, before, or_else, where_holds}
+use Rattle.pattern_defs.specs.Attempt.{looked, arms_run}
 use Rattle.onig_match.specs.declared.cells.Rest.{Rest}
 use Rattle.onig_match.specs.declared.cells.NodeAt.{NodeAt}
 use Rattle.onig_match.specs.declared.cells.Cell.{Cell}
 use Rattle.onig_match.specs.declared.entries.Entry.{Entry}
 use Rattle.onig_match.specs.declared.entries.Resume.{Resume}
-use Rattle.onig_match.specs.declared.entries.Resume.TheVariants.{Other, Alternatives, AfterAhead, AfterBehind, AfterAtomic}
+use Rattle.onig_match.specs.declared.entries.Resume.TheVariants.{Other, Alternatives, AfterAhead, AfterBehind}
+use Rattle.onig_match.specs.declared.entries.Resume.TheVariants.{AfterAtomic}
 use Rattle.onig_match.specs.declared.entries.Step.{Step}
 use Rattle.onig_match.specs.declared.entries.Step.TheVariants.{Go, Found, Failed}
 use Rattle.onig_match.specs.declared.area.Area.{Area}
 use Rattle.onig_match.specs.declared.searched.Searched.{Searched}
 use Rattle.onig_match.specs.Goes.{goes}
-use Rattle.onig_match.specs.Machine.{subject, kept, todo_of, captures_at, resumed, carried, ran_of, with_entry, ids_at, arms_at, rank}
+use Rattle.onig_match.specs.Machine.{subject, kept, todo_of, captures_at, resumed, carried, ran_of, with_entry}
+use Rattle.onig_match.specs.Machine.{ids_at, arms_at, rank}
 use Rattle.onig_match.specs.Sound.{IsResume, IsSound, IsStep, HasRoom, Leads, IsNextArm}
 use Rattle.onig_match.proofs.Carries.{length-kept, carry-entry, carry-skip}
-use Rattle.onig_match.proofs.Steps.{AreEntries-widen, AreCells-drop, AreChanges-drop, AreTaken-undone, length-undone, made, sound_entered, rank_small}
+use Rattle.onig_match.proofs.Steps.{AreEntries-widen, AreCells-drop, AreChanges-drop, AreTaken-undone, length-undone}
+use Rattle.onig_match.proofs.Steps.{made, sound_entered, rank_small}
 use Rattle.onig_match.proofs.VisitSteps.{start, start_alone, with_cells}
 
 -- everything as it was at the entry
@@ -40,7 +45,8 @@ sound_below on old entry sound = record {
   groups = sound.groups;
   captures = sound.captures;
   cells = sound.cells;
-  entries = AreEntries-widen on.pattern.now (length on.text.now) entry.cells (length old.cells.items) entry.trail (length old.trail.items) old.entries.items sound.entries.1 sound.entries.0.below sound.entries.0.before;
+  entries = AreEntries-widen on.pattern.now (length on.text.now) entry.cells (length old.cells.items) entry.trail
+      (length old.trail.items) old.entries.items sound.entries.1 sound.entries.0.below sound.entries.0.before;
   trail = sound.trail;
 }
 
@@ -56,11 +62,16 @@ pub sound_rewound : (on : Searched) (old : Area) (entry : Entry) → IsSound on 
     IsSound on (rewound old entry)
 sound_rewound on old entry sound = record {
   groups = length-undone (length old.trail.items - entry.trail) old.trail.items old.captures.items ∙ sound.groups;
-  captures = AreTaken-undone on.pattern.now (length on.text.now) (length old.trail.items - entry.trail) old.trail.items old.captures.items sound.captures sound.trail;
-  cells = AreCells-drop on.pattern.now (length on.text.now) (length old.cells.items - entry.cells) old.cells.items sound.cells;
-  entries = AreEntries-widen on.pattern.now (length on.text.now) entry.cells (length (kept entry.cells old.cells.items)) entry.trail (length (kept entry.trail old.trail.items)) old.entries.items sound.entries.1
+  captures = AreTaken-undone on.pattern.now (length on.text.now) (length old.trail.items - entry.trail)
+      old.trail.items old.captures.items sound.captures sound.trail;
+  cells = AreCells-drop on.pattern.now (length on.text.now) (length old.cells.items - entry.cells) old.cells.items
+      sound.cells;
+  entries = AreEntries-widen on.pattern.now (length on.text.now) entry.cells
+      (length (kept entry.cells old.cells.items)) entry.trail (length (kept entry.trail old.trail.items))
+      old.entries.items sound.entries.1
       (omega (arith, cells_kept on old entry sound)) (omega (arith, trail_kept on old entry sound));
-  trail = AreChanges-drop on.pattern.now (length on.text.now) (length old.trail.items - entry.trail) old.trail.items sound.trail;
+  trail = AreChanges-drop on.pattern.now (length on.text.now) (length old.trail.items - entry.trail) old.trail.items
+      sound.trail;
 }
 
 pub sound_cut : (on : Searched) (old : Area) (entry : Entry) → IsSound on (with_entry old entry) →
@@ -68,8 +79,10 @@ pub sound_cut : (on : Searched) (old : Area) (entry : Entry) → IsSound on (wit
 sound_cut on old entry sound = record {
   groups = sound.groups;
   captures = sound.captures;
-  cells = AreCells-drop on.pattern.now (length on.text.now) (length old.cells.items - entry.cells) old.cells.items sound.cells;
-  entries = AreEntries-widen on.pattern.now (length on.text.now) entry.cells (length (kept entry.cells old.cells.items)) entry.trail (length old.trail.items) old.entries.items sound.entries.1
+  cells = AreCells-drop on.pattern.now (length on.text.now) (length old.cells.items - entry.cells) old.cells.items
+      sound.cells;
+  entries = AreEntries-widen on.pattern.now (length on.text.now) entry.cells
+      (length (kept entry.cells old.cells.items)) entry.trail (length old.trail.items) old.entries.items sound.entries.1
       (omega (arith, cells_kept on old entry sound)) sound.entries.0.before;
   trail = sound.trail;
 }
@@ -78,7 +91,8 @@ sound_cut on old entry sound = record {
 resume_kept : (on : Searched) (old : Area) (entry : Entry) (resume : Resume) → IsSound on (with_entry old entry) →
     entry.resume ≡ resume → IsResume on.pattern.now (length (kept entry.cells old.cells.items)) resume
 resume_kept on old entry resume sound e =
-    let is : IsResume on.pattern.now entry.cells resume = subst (λ (r : Resume). IsResume on.pattern.now entry.cells r) e sound.entries.0.resume in
+    let is : IsResume on.pattern.now entry.cells resume =
+    subst (λ (r : Resume). IsResume on.pattern.now entry.cells r) e sound.entries.0.resume in
     subst (λ (n : ℕ). IsResume on.pattern.now n resume) (sym (cells_kept on old entry sound)) is
 
 abbrev missed : Searched → Area → Entry → ℕ → Ran
@@ -98,7 +112,10 @@ room_kept on old entry sound left has = record {
 
 lead_rewound : (on : Searched) (old : Area) (entry : Entry) (result : Step) → IsSound on (with_entry old entry) →
     IsStep on (length (kept entry.cells old.cells.items)) result → ((left : ℕ) →
-    ran_of (subject on) (rewound old entry) result left ≡ resumed (subject on) (kept entry.cells old.cells.items) (captures_at entry.trail old.trail.items old.captures.items) entry.resume entry.at (Miss left)) → Leads on 0 (with_entry old entry) (missed on old entry) (rewound old entry) result
+    ran_of (subject on) (rewound old entry) result left
+    ≡ resumed (subject on) (kept entry.cells old.cells.items)
+    (captures_at entry.trail old.trail.items old.captures.items) entry.resume entry.at (Miss left))
+    → Leads on 0 (with_entry old entry) (missed on old entry) (rewound old entry) result
 lead_rewound on old entry result sound step ends = record {
   ends = λ left. ap (λ (ran : Ran). carried (subject on) (rewound old entry) ran) (ends left);
   sound = sound_rewound on old entry sound;
@@ -111,10 +128,17 @@ lead_rewound on old entry result sound step ends = record {
 lead_reentered : (on : Searched) (old : Area) (entry : Entry) (resume : Resume) (result : Step) → rank result ≡ 0 →
     IsSound on (with_entry old entry) → IsResume on.pattern.now (length (kept entry.cells old.cells.items)) resume →
     IsStep on (length (kept entry.cells old.cells.items)) result → ((left : ℕ) →
-    resumed (subject on) (kept entry.cells old.cells.items) (captures_at entry.trail old.trail.items old.captures.items) resume entry.at (ran_of (subject on) (rewound old entry) result left) ≡ resumed (subject on) (kept entry.cells old.cells.items) (captures_at entry.trail old.trail.items old.captures.items) entry.resume entry.at (Miss left)) → Leads on 0 (with_entry old entry) (missed on old entry) (with_entry (rewound old entry) (made (rewound old entry) resume entry.at)) result
+    resumed (subject on) (kept entry.cells old.cells.items)
+    (captures_at entry.trail old.trail.items old.captures.items) resume entry.at
+    (ran_of (subject on) (rewound old entry) result left)
+    ≡ resumed (subject on) (kept entry.cells old.cells.items)
+    (captures_at entry.trail old.trail.items old.captures.items) entry.resume entry.at (Miss left))
+    → Leads on 0 (with_entry old entry) (missed on old entry)
+    (with_entry (rewound old entry) (made (rewound old entry) resume entry.at)) result
 lead_reentered on old entry resume result goes_on sound is step ends = record {
   ends = λ left.
-      carry-entry (subject on) (rewound old entry).cells.items (rewound old entry).trail.items (rewound old entry).captures.items (made (rewound old entry) resume entry.at) old.entries.items
+      carry-entry (subject on) (rewound old entry).cells.items (rewound old entry).trail.items
+      (rewound old entry).captures.items (made (rewound old entry) resume entry.at) old.entries.items
       (ran_of (subject on) (rewound old entry) result left) refl refl
       ∙ ap (λ (ran : Ran). carried (subject on) (rewound old entry) ran) (ends left);
   sound = sound_entered on (rewound old entry) resume entry.at (sound_rewound on old entry sound) sound.entries.0.at is;
@@ -131,12 +155,18 @@ lead_reentered on old entry resume result goes_on sound is step ends = record {
 
 lead_cut : (on : Searched) (old : Area) (entry : Entry) (end : ℕ) (result : Step) →
     IsSound on (with_entry old entry) → IsStep on (length (kept entry.cells old.cells.items)) result → ((left : ℕ) →
-    ran_of (subject on) (cut old entry) result left ≡ resumed (subject on) (kept entry.cells old.cells.items) (captures_at entry.trail old.trail.items old.captures.items) entry.resume entry.at (Hit end old.captures.items left)) → Leads on 0 (with_entry old entry) (hits on old entry end) (cut old entry) result
+    ran_of (subject on) (cut old entry) result left
+    ≡ resumed (subject on) (kept entry.cells old.cells.items)
+    (captures_at entry.trail old.trail.items old.captures.items) entry.resume entry.at
+    (Hit end old.captures.items left)) → Leads on 0 (with_entry old entry) (hits on old entry end)
+    (cut old entry) result
 lead_cut on old entry end result sound step ends = record {
   ends = λ left.
       ap (λ (ran : Ran). carried (subject on) (cut old entry) ran) (ends left)
-      ∙ sym (carry-skip (subject on) on.pattern.now (length on.text.now) (kept entry.cells old.cells.items) entry.trail old.trail.items old.captures.items old.entries.items _
-      (AreEntries-widen on.pattern.now (length on.text.now) entry.cells (length (kept entry.cells old.cells.items)) entry.trail entry.trail old.entries.items sound.entries.1
+      ∙ sym (carry-skip (subject on) on.pattern.now (length on.text.now) (kept entry.cells old.cells.items)
+      entry.trail old.trail.items old.captures.items old.entries.items _
+      (AreEntries-widen on.pattern.now (length on.text.now) entry.cells (length (kept entry.cells old.cells.items))
+      entry.trail entry.trail old.entries.items sound.entries.1
       (omega (arith, cells_kept on old entry sound)) (omega arith))
       sound.entries.0.before);
   sound = sound_cut on old entry sound;
@@ -155,9 +185,11 @@ lead_cut on old entry end result sound step ends = record {
 
 pub miss_other : (on : Searched) (old : Area) (entry : Entry) (rest : Rest) → IsSound on (with_entry old entry) →
     entry.resume ≡ Other rest →
-    Leads on 0 (with_entry old entry) (missed on old entry) (rewound old entry) (Go (record { rest = rest; at = entry.at }))
+    Leads on 0 (with_entry old entry) (missed on old entry) (rewound old entry)
+    (Go (record { rest = rest; at = entry.at }))
 miss_other on old entry rest sound e =
-    lead_rewound on old entry (Go (record { rest = rest; at = entry.at })) sound (resume_kept on old entry (Other rest) sound e, sound.entries.0.at) (λ left. rw e refl)
+    lead_rewound on old entry (Go (record { rest = rest; at = entry.at })) sound
+    (resume_kept on old entry (Other rest) sound e, sound.entries.0.at) (λ left. rw e refl)
 
 pub drop_some : {A : Type 0} (xs : List A) (k : ℕ) (x : A) → slice_get xs k ≡ Some x → drop k xs ≡ x ∷ drop (k + 1) xs
 drop_some [] k x e = cc
@@ -173,11 +205,16 @@ drop_none (y ∷ ys) (suc k) e = drop_none ys k e
 pub miss_alternative : (on : Searched) (old : Area) (entry : Entry) (node : NodeAt) (way next : ℕ) (id : ListId) →
     IsSound on (with_entry old entry) → entry.resume ≡ Alternatives node way next →
     Some id ≡ slice_get (ids_at on.pattern.now.lists node) way → id.0 < length on.pattern.now.lists →
-    Leads on 0 (with_entry old entry) (missed on old entry) (with_entry (rewound old entry) (made (rewound old entry) (Alternatives node (way + 1) next) entry.at)) (Go (record { rest = start id next; at = entry.at }))
+    Leads on 0 (with_entry old entry) (missed on old entry)
+    (with_entry (rewound old entry) (made (rewound old entry) (Alternatives node (way + 1) next) entry.at))
+    (Go (record { rest = start id next; at = entry.at }))
 miss_alternative on old entry node way next id sound e there inside =
-    let ways : drop way (ids_at on.pattern.now.lists node) ≡ id ∷ drop (way + 1) (ids_at on.pattern.now.lists node) = drop_some (ids_at on.pattern.now.lists node) way id (sym there) in
-    let is : IsResume on.pattern.now (length (kept entry.cells old.cells.items)) (Alternatives node way next) = resume_kept on old entry (Alternatives node way next) sound e in
-    lead_reentered on old entry (Alternatives node (way + 1) next) (Go (record { rest = start id next; at = entry.at })) refl sound is
+    let ways : drop way (ids_at on.pattern.now.lists node) ≡ id ∷ drop (way + 1) (ids_at on.pattern.now.lists node) =
+    drop_some (ids_at on.pattern.now.lists node) way id (sym there) in
+    let is : IsResume on.pattern.now (length (kept entry.cells old.cells.items)) (Alternatives node way next) =
+    resume_kept on old entry (Alternatives node way next) sound e in
+    lead_reentered on old entry (Alternatives node (way + 1) next)
+    (Go (record { rest = start id next; at = entry.at })) refl sound is
     (record { list = inside; next = is.1 }, sound.entries.0.at)
     (λ left. rw (e, ways) refl)
 
@@ -186,7 +223,8 @@ pub miss_alternatives : (on : Searched) (old : Area) (entry : Entry) (node : Nod
     None ≡ slice_get (ids_at on.pattern.now.lists node) way →
     Leads on 0 (with_entry old entry) (missed on old entry) (rewound old entry) Failed
 miss_alternatives on old entry node way next sound e there =
-    let ways : drop way (ids_at on.pattern.now.lists node) ≡ [] = drop_none (ids_at on.pattern.now.lists node) way (sym there) in
+    let ways : drop way (ids_at on.pattern.now.lists node) ≡ [] =
+    drop_none (ids_at on.pattern.now.lists node) way (sym there) in
     lead_rewound on old entry Failed sound tt (λ left. rw (e, ways) refl)
 
 pub miss_ahead : (on : Searched) (old : Area) (entry : Entry) (rest : Rest) → IsSound on (with_entry old entry) →
@@ -196,9 +234,11 @@ miss_ahead on old entry rest sound e = lead_rewound on old entry Failed sound tt
 
 pub miss_not_ahead : (on : Searched) (old : Area) (entry : Entry) (rest : Rest) →
     IsSound on (with_entry old entry) → entry.resume ≡ AfterAhead false rest →
-    Leads on 0 (with_entry old entry) (missed on old entry) (rewound old entry) (Go (record { rest = rest; at = entry.at }))
+    Leads on 0 (with_entry old entry) (missed on old entry) (rewound old entry)
+    (Go (record { rest = rest; at = entry.at }))
 miss_not_ahead on old entry rest sound e =
-    lead_rewound on old entry (Go (record { rest = rest; at = entry.at })) sound (resume_kept on old entry (AfterAhead false rest) sound e, sound.entries.0.at) (λ left. rw e refl)
+    lead_rewound on old entry (Go (record { rest = rest; at = entry.at })) sound
+    (resume_kept on old entry (AfterAhead false rest) sound e, sound.entries.0.at) (λ left. rw e refl)
 
 pub miss_atomic : (on : Searched) (old : Area) (entry : Entry) (rest : Rest) → IsSound on (with_entry old entry) →
     entry.resume ≡ AfterAtomic rest →
@@ -215,20 +255,38 @@ or_else-next Spent f g same = refl
 arms_run-within : (s : Subject) (go : Going) (arms : List Arm) (at : ℕ) (captures : Captures) (left : ℕ) →
     arms_run s go (filter (λ a. nat_le a.length at) arms) at captures left ≡ arms_run s go arms at captures left
 arms_run-within s go [] at captures left = refl
-arms_run-within s go (arm ∷ arms) at captures left = by_length s go arm arms at captures left (nat_le arm.length at) refl (arms_run-within s go arms at captures)
+arms_run-within s go (arm ∷ arms) at captures left =
+    by_length s go arm arms at captures left (nat_le arm.length at) refl (arms_run-within s go arms at captures)
   where
-    by_length : (s : Subject) (go : Going) (arm : Arm) (arms : List Arm) (at : ℕ) (captures : Captures) (left : ℕ) (b : Bool) → nat_le arm.length at ≡ b → ((left' : ℕ) → arms_run s go (filter (λ a. nat_le a.length at) arms) at captures left' ≡ arms_run s go arms at captures left') → arms_run s go (cond b (arm ∷ filter (λ a. nat_le a.length at) arms) (filter (λ a. nat_le a.length at) arms)) at captures left ≡ or_else (where_holds b go (before s.lists arm.body []) (at - arm.length) captures left) (λ rest. arms_run s go arms at captures rest)
-    by_length s go arm arms at captures left true e same = rw e (or_else-next (go (before s.lists arm.body []) (at - arm.length) captures left) (λ rest. arms_run s go (filter (λ a. nat_le a.length at) arms) at captures rest) (λ rest. arms_run s go arms at captures rest) same)
+    by_length : (s : Subject) (go : Going) (arm : Arm) (arms : List Arm) (at : ℕ) (captures : Captures) (left : ℕ)
+        (b : Bool) → nat_le arm.length at ≡ b → ((left' : ℕ)
+        → arms_run s go (filter (λ a. nat_le a.length at) arms) at captures left'
+        ≡ arms_run s go arms at captures left') → arms_run s go
+        (cond b (arm ∷ filter (λ a. nat_le a.length at) arms)
+        (filter (λ a. nat_le a.length at) arms)) at captures left
+        ≡ or_else (where_holds b go (before s.lists arm.body []) (at - arm.length) captures left)
+        (λ rest. arms_run s go arms at captures rest)
+    by_length s go arm arms at captures left true e same =
+        rw e (or_else-next (go (before s.lists arm.body []) (at - arm.length) captures left)
+        (λ rest. arms_run s go (filter (λ a. nat_le a.length at) arms) at captures rest)
+        (λ rest. arms_run s go arms at captures rest) same)
     by_length s go arm arms at captures left false e same = same left
 
-arms_run-next : (s : Subject) (go : Going) (arms : List Arm) (arm k : ℕ) (one : Arm) (at : ℕ) (captures : Captures) (left : ℕ) → IsNextArm arms arm at (Some (k, one)) → or_else (go (before s.lists one.body []) (at - one.length) captures left) (λ rest. arms_run s go (drop (k + 1) arms) at captures rest) ≡ arms_run s go (drop arm arms) at captures left
+arms_run-next : (s : Subject) (go : Going) (arms : List Arm) (arm k : ℕ) (one : Arm) (at : ℕ) (captures : Captures)
+    (left : ℕ) → IsNextArm arms arm at (Some (k, one))
+    → or_else (go (before s.lists one.body []) (at - one.length) captures left)
+    (λ rest. arms_run s go (drop (k + 1) arms) at captures rest) ≡ arms_run s go (drop arm arms) at captures left
 arms_run-next s go arms arm k one at captures left is =
     let short : nat_le one.length at ≡ true = le-leb _ _ is.1 in
-    let found : arms_run s go (one ∷ filter (λ a. nat_le a.length at) (drop (k + 1) arms)) at captures left ≡ arms_run s go (drop arm arms) at captures left =
-    ap (λ (rest : List Arm). arms_run s go rest at captures left) (sym is.0) ∙ arms_run-within s go (drop arm arms) at captures left in
-    let tried : or_else (go (before s.lists one.body []) (at - one.length) captures left) (λ rest. arms_run s go (filter (λ a. nat_le a.length at) (drop (k + 1) arms)) at captures rest)
+    let found : arms_run s go (one ∷ filter (λ a. nat_le a.length at) (drop (k + 1) arms)) at captures left
+    ≡ arms_run s go (drop arm arms) at captures left =
+    ap (λ (rest : List Arm). arms_run s go rest at captures left) (sym is.0)
+    ∙ arms_run-within s go (drop arm arms) at captures left in
+    let tried : or_else (go (before s.lists one.body []) (at - one.length) captures left)
+    (λ rest. arms_run s go (filter (λ a. nat_le a.length at) (drop (k + 1) arms)) at captures rest)
     ≡ arms_run s go (drop arm arms) at captures left = rw short at found in
-    or_else-next (go (before s.lists one.body []) (at - one.length) captures left) (λ rest. arms_run s go (drop (k + 1) arms) at captures rest)
+    or_else-next (go (before s.lists one.body []) (at - one.length) captures left)
+    (λ rest. arms_run s go (drop (k + 1) arms) at captures rest)
     (λ rest. arms_run s go (filter (λ a. nat_le a.length at) (drop (k + 1) arms)) at captures rest)
     (λ rest. sym (arms_run-within s go (drop (k + 1) arms) at captures rest))
     ∙ tried
@@ -236,16 +294,25 @@ arms_run-next s go arms arm k one at captures left is =
 arms_run-none : (s : Subject) (go : Going) (arms : List Arm) (arm at : ℕ) (captures : Captures) (left : ℕ) →
     IsNextArm arms arm at None → Miss left ≡ arms_run s go (drop arm arms) at captures left
 arms_run-none s go arms arm at captures left is =
-    ap (λ (rest : List Arm). arms_run s go rest at captures left) (sym is) ∙ arms_run-within s go (drop arm arms) at captures left
+    ap (λ (rest : List Arm). arms_run s go rest at captures left) (sym is)
+    ∙ arms_run-within s go (drop arm arms) at captures left
 
-pub miss_arm : (on : Searched) (old : Area) (entry : Entry) (node : NodeAt) (arm k : ℕ) (one : Arm) (wanted : Bool) (rest : Rest) → IsSound on (with_entry old entry) → entry.resume ≡ AfterBehind node arm wanted rest → IsNextArm (arms_at on.pattern.now.lists node) arm entry.at (Some (k, one)) → one.body.0 < length on.pattern.now.lists → Leads on 0 (with_entry old entry) (missed on old entry) (with_entry (rewound old entry) (made (rewound old entry) (AfterBehind node (k + 1) wanted rest) entry.at)) (Go (record { rest = start one.body 0; at = entry.at - one.length }))
+pub miss_arm : (on : Searched) (old : Area) (entry : Entry) (node : NodeAt) (arm k : ℕ) (one : Arm) (wanted : Bool)
+    (rest : Rest) → IsSound on (with_entry old entry) → entry.resume ≡ AfterBehind node arm wanted rest
+    → IsNextArm (arms_at on.pattern.now.lists node) arm entry.at (Some (k, one))
+    → one.body.0 < length on.pattern.now.lists
+    → Leads on 0 (with_entry old entry) (missed on old entry)
+    (with_entry (rewound old entry) (made (rewound old entry) (AfterBehind node (k + 1) wanted rest) entry.at))
+    (Go (record { rest = start one.body 0; at = entry.at - one.length }))
 miss_arm on old entry node arm k one wanted rest sound e next inside =
     let s : Subject = subject on in
     let cells : List Cell = kept entry.cells old.cells.items in
     let captures : Captures = captures_at entry.trail old.trail.items old.captures.items in
-    let is : IsResume on.pattern.now (length cells) (AfterBehind node arm wanted rest) = resume_kept on old entry (AfterBehind node arm wanted rest) sound e in
+    let is : IsResume on.pattern.now (length cells) (AfterBehind node arm wanted rest) =
+    resume_kept on old entry (AfterBehind node arm wanted rest) sound e in
     let early : entry.at ≤ length on.text.now = sound.entries.0.at in
-    lead_reentered on old entry (AfterBehind node (k + 1) wanted rest) (Go (record { rest = start one.body 0; at = entry.at - one.length })) refl sound is
+    lead_reentered on old entry (AfterBehind node (k + 1) wanted rest)
+    (Go (record { rest = start one.body 0; at = entry.at - one.length })) refl sound is
     (record { list = inside; next = omega arith }, omega arith)
     (λ left. rw (e, start_alone on.pattern.now.lists cells one.body)
     (ap (λ (ran : Ran). looked wanted ran (goes s) (todo_of on.pattern.now.lists cells rest) entry.at captures)
@@ -260,20 +327,24 @@ miss_behind on old entry node arm rest sound e next =
     let cells : List Cell = kept entry.cells old.cells.items in
     let captures : Captures = captures_at entry.trail old.trail.items old.captures.items in
     lead_rewound on old entry Failed sound tt
-    (λ left. rw e (ap (λ (ran : Ran). looked true ran (goes s) (todo_of on.pattern.now.lists cells rest) entry.at captures)
+    (λ left. rw e (ap (λ (ran : Ran). looked true ran (goes s) (todo_of on.pattern.now.lists cells rest) entry.at
+    captures)
     (arms_run-none s (goes s) (arms_at on.pattern.now.lists node) arm entry.at captures left next)))
 
 pub miss_not_behind : (on : Searched) (old : Area) (entry : Entry) (node : NodeAt) (arm : ℕ) (rest : Rest) →
     IsSound on (with_entry old entry) → entry.resume ≡ AfterBehind node arm false rest →
     IsNextArm (arms_at on.pattern.now.lists node) arm entry.at None →
-    Leads on 0 (with_entry old entry) (missed on old entry) (rewound old entry) (Go (record { rest = rest; at = entry.at }))
+    Leads on 0 (with_entry old entry) (missed on old entry) (rewound old entry)
+    (Go (record { rest = rest; at = entry.at }))
 miss_not_behind on old entry node arm rest sound e next =
     let s : Subject = subject on in
     let cells : List Cell = kept entry.cells old.cells.items in
     let captures : Captures = captures_at entry.trail old.trail.items old.captures.items in
-    let is : IsResume on.pattern.now (length cells) (AfterBehind node arm false rest) = resume_kept on old entry (AfterBehind node arm false rest) sound e in
+    let is : IsResume on.pattern.now (length cells) (AfterBehind node arm false rest) =
+    resume_kept on old entry (AfterBehind node arm false rest) sound e in
     lead_rewound on old entry (Go (record { rest = rest; at = entry.at })) sound (is.1, sound.entries.0.at)
-    (λ left. rw e (ap (λ (ran : Ran). looked false ran (goes s) (todo_of on.pattern.now.lists cells rest) entry.at captures)
+    (λ left. rw e (ap (λ (ran : Ran). looked false ran (goes s) (todo_of on.pattern.now.lists cells rest) entry.at
+    captures)
     (arms_run-none s (goes s) (arms_at on.pattern.now.lists node) arm entry.at captures left next)))
 
 -- at a hit
@@ -286,13 +357,16 @@ hit_other on old entry rest end sound low e = lead_cut on old entry end (Found e
 pub hit_alternatives : (on : Searched) (old : Area) (entry : Entry) (node : NodeAt) (way next end : ℕ) →
     IsSound on (with_entry old entry) → end ≤ length on.text.now → entry.resume ≡ Alternatives node way next →
     Leads on 0 (with_entry old entry) (hits on old entry end) (cut old entry) (Found end)
-hit_alternatives on old entry node way next end sound low e = lead_cut on old entry end (Found end) sound low (λ left. rw e refl)
+hit_alternatives on old entry node way next end sound low e =
+    lead_cut on old entry end (Found end) sound low (λ left. rw e refl)
 
 pub hit_ahead : (on : Searched) (old : Area) (entry : Entry) (rest : Rest) (end : ℕ) →
     IsSound on (with_entry old entry) → entry.resume ≡ AfterAhead true rest →
-    Leads on 0 (with_entry old entry) (hits on old entry end) (cut old entry) (Go (record { rest = rest; at = entry.at }))
+    Leads on 0 (with_entry old entry) (hits on old entry end) (cut old entry)
+    (Go (record { rest = rest; at = entry.at }))
 hit_ahead on old entry rest end sound e =
-    lead_cut on old entry end (Go (record { rest = rest; at = entry.at })) sound (resume_kept on old entry (AfterAhead true rest) sound e, sound.entries.0.at) (λ left. rw e refl)
+    lead_cut on old entry end (Go (record { rest = rest; at = entry.at })) sound
+    (resume_kept on old entry (AfterAhead true rest) sound e, sound.entries.0.at) (λ left. rw e refl)
 
 pub hit_not_ahead : (on : Searched) (old : Area) (entry : Entry) (rest : Rest) (end : ℕ) →
     IsSound on (with_entry old entry) → entry.resume ≡ AfterAhead false rest →
@@ -301,16 +375,22 @@ hit_not_ahead on old entry rest end sound e = lead_cut on old entry end Failed s
 
 pub hit_behind : (on : Searched) (old : Area) (entry : Entry) (node : NodeAt) (arm : ℕ) (rest : Rest) (end : ℕ) →
     IsSound on (with_entry old entry) → entry.resume ≡ AfterBehind node arm true rest →
-    Leads on 0 (with_entry old entry) (hits on old entry end) (cut old entry) (Go (record { rest = rest; at = entry.at }))
+    Leads on 0 (with_entry old entry) (hits on old entry end) (cut old entry)
+    (Go (record { rest = rest; at = entry.at }))
 hit_behind on old entry node arm rest end sound e =
-    let is : IsResume on.pattern.now (length (kept entry.cells old.cells.items)) (AfterBehind node arm true rest) = resume_kept on old entry (AfterBehind node arm true rest) sound e in
-    lead_cut on old entry end (Go (record { rest = rest; at = entry.at })) sound (is.1, sound.entries.0.at) (λ left. rw e refl)
+    let is : IsResume on.pattern.now (length (kept entry.cells old.cells.items)) (AfterBehind node arm true rest) =
+    resume_kept on old entry (AfterBehind node arm true rest) sound e in
+    lead_cut on old entry end (Go (record { rest = rest; at = entry.at })) sound (is.1, sound.entries.0.at)
+    (λ left. rw e refl)
 
-pub hit_not_behind : (on : Searched) (old : Area) (entry : Entry) (node : NodeAt) (arm : ℕ) (rest : Rest) (end : ℕ) → IsSound on (with_entry old entry) → entry.resume ≡ AfterBehind node arm false rest → Leads on 0 (with_entry old entry) (hits on old entry end) (cut old entry) Failed
+pub hit_not_behind : (on : Searched) (old : Area) (entry : Entry) (node : NodeAt) (arm : ℕ) (rest : Rest) (end : ℕ)
+    → IsSound on (with_entry old entry) → entry.resume ≡ AfterBehind node arm false rest
+    → Leads on 0 (with_entry old entry) (hits on old entry end) (cut old entry) Failed
 hit_not_behind on old entry node arm rest end sound e = lead_cut on old entry end Failed sound tt (λ left. rw e refl)
 
 pub hit_atomic : (on : Searched) (old : Area) (entry : Entry) (rest : Rest) (end : ℕ) →
     IsSound on (with_entry old entry) → end ≤ length on.text.now → entry.resume ≡ AfterAtomic rest →
     Leads on 0 (with_entry old entry) (hits on old entry end) (cut old entry) (Go (record { rest = rest; at = end }))
 hit_atomic on old entry rest end sound low e =
-    lead_cut on old entry end (Go (record { rest = rest; at = end })) sound (resume_kept on old entry (AfterAtomic rest) sound e, low) (λ left. rw e refl)
+    lead_cut on old entry end (Go (record { rest = rest; at = end })) sound
+    (resume_kept on old entry (AfterAtomic rest) sound e, low) (λ left. rw e refl)

@@ -1,8 +1,10 @@
 -- The bits of the words of rows.
-use Rattle.std.proofs.Common.{◌≡◌, ◌≢◌, ℕ, zero, suc, ◌+◌, ◌-◌, ◌*◌, ◌/◌, ◌%◌, ◌^◌, ◌<◌, ◌≤◌, Bool, true, false, List, length, Option, refl, sym, ap, ◌∙◌, subst, arith, w64, pow-add}
+use Rattle.std.proofs.Common.{◌≡◌, ◌≢◌, ℕ, zero, suc, ◌+◌, ◌-◌, ◌*◌, ◌/◌, ◌%◌, ◌^◌, ◌<◌, ◌≤◌, Bool, true, false, List}
+use Rattle.std.proofs.Common.{length, Option, refl, sym, ap, ◌∙◌, subst, arith, w64, pow-add}
 use Rattle.std.proofs.lemmas.Bool.{ltb-true, ltb-false, false≢true, true≢false}
 use Rattle.std.proofs.lemmas.Nat.{div-mul-add, mod-mul-add}
-use Rattle.std.proofs.lemmas.Nat.Bits.{bit_at-zero, bit_at_above, bit_at-suc, bit_at-trailing_zeros, bit_at_set_same, bit_at_set_other}
+use Rattle.std.proofs.lemmas.Nat.Bits.{bit_at-zero, bit_at_above, bit_at-suc, bit_at-trailing_zeros, bit_at_set_same}
+use Rattle.std.proofs.lemmas.Nat.Bits.{bit_at_set_other}
 use Rattle.std.proofs.Math.Nat.{div-div-eq-div-mul, mul-le-mul_right}
 use Rattle.std.specs.Int.{bit_at, trailing_zeros}
 use Rattle.std.specs.Prelude.{slice_get, IfSome, nat_lt, bit_or}
@@ -35,7 +37,8 @@ lowest_bit word from left some fits small bits =
           ∙ (let e : from + (low + suc j) ≡ from + low + 1 + j = omega arith in ap (bit_at word) e);
     }
   where
-    by_test : (b : Bool) → nat_lt (from + trailing_zeros w64 left) 64 ≡ b → bit_at word (from + trailing_zeros w64 left) ≡ 1 →
+    by_test : (b : Bool) → nat_lt (from + trailing_zeros w64 left) 64 ≡ b
+        → bit_at word (from + trailing_zeros w64 left) ≡ 1 →
         from + trailing_zeros w64 left < 64
     by_test true e set = ltb-true (from + trailing_zeros w64 left) 64 e
     by_test false e set =
@@ -65,13 +68,15 @@ bits_more trees row first cost k old new false within set same before here =
     (λ j low zero. before j low (rw same' at zero)) (λ zero. here refl)
 
 -- the words of a row among all words
-pub row_of_rows : (trees : List Tree) (words cost row : ℕ) (rows : List ℕ) → row < 260 → length rows ≡ 260 * words → AreRows trees words cost rows →
+pub row_of_rows : (trees : List Tree) (words cost row : ℕ) (rows : List ℕ) → row < 260 → length rows ≡ 260 * words
+    → AreRows trees words cost rows →
     IsRow trees row cost rows (row * words) words
 row_of_rows trees words cost row rows low size are =
     record {
       is = λ k within.
           let most : (row + 1) * words ≤ 260 * words = mul-le-mul_right words (omega arith) in
           let fits : row * words + k < length rows = omega (arith, most, size) in
-          let one : IsWord trees ((row * words + k) / words) (64 * ((row * words + k) % words)) cost _ = are.is (row * words + k) fits in
+          let one : IsWord trees ((row * words + k) / words) (64 * ((row * words + k) % words)) cost _ =
+          are.is (row * words + k) fits in
           rw (div-mul-add row words k within, mod-mul-add row words k within) at one;
     }

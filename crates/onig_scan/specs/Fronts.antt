@@ -1,6 +1,7 @@
 -- What can stand where a pattern matches: a set of characters without which there is no match, and how many visits
 -- an attempt there takes at most to miss. It spares attempts, and changes no answer.
-use Rattle.std.specs.Prelude.{◌≡◌, ℕ, Bool, ◌+◌, ◌<◌, ◌≤◌, List, [], ◌∷◌, ◌++◌, map, true, false, IfSome, Option, Some, None, slice_get}
+use Rattle.std.specs.Prelude.{◌≡◌, ℕ, Bool, ◌+◌, ◌<◌, ◌≤◌, List, [], ◌∷◌, ◌++◌, map, true, false, IfSome, Option}
+use Rattle.std.specs.Prelude.{Some, None, slice_get}
 use Rattle.char_sets.specs.Ranges.{in_set}
 use Rattle.char_sets.specs.declared.char_set.CharRange.{CharRange}
 use Rattle.pattern_defs.specs.declared.nodes.ListId.{ListId}
@@ -39,10 +40,11 @@ IsBehind s place todo None = Unit {0}
 IsBehind s place todo (Some f) = IsFrontOf s place todo f f.cost
 
 -- nodes have such a front before anything that has the other, in any text
-pub record IsFront (lists : NodeLists) (nodes : List PatNode) (behind : Option Front) (f : Front) (cost : ℕ) : Type 0 where
-  pub front : (text : List ℕ) (flags : Flags) (place : ℕ) (rest : List Todo) →
-      IsBehind (subject_of lists text flags) place rest behind →
-      IsFrontOf (subject_of lists text flags) place (map Node nodes ++ rest) f cost
+pub record IsFront (lists : NodeLists) (nodes : List PatNode) (behind : Option Front) (f : Front) (cost : ℕ) : Type 0
+  where
+    pub front : (text : List ℕ) (flags : Flags) (place : ℕ) (rest : List Todo) →
+        IsBehind (subject_of lists text flags) place rest behind →
+        IsFrontOf (subject_of lists text flags) place (map Node nodes ++ rest) f cost
 
 -- lists of nodes that have such fronts, with the sum of the visits
 abbrev pub AreFronts : NodeLists → List ListId → Option Front → Front → ℕ → Type 0
@@ -61,12 +63,14 @@ pub record IsWider (small large : Front) : Type 0 where
   pub stays : small.stays ≡ true → large.stays ≡ true
 
 -- a list that is run by itself and has to hit, apart from the visit for its node
-pub record IsFrontOfOwn (lists : NodeLists) (body : ListId) (behind : Option Front) (f : Front) (cost : ℕ) : Type 0 where
-  pub atomic : IsFront lists (Atomic body ∷ []) behind f (cost + 1)
-  pub ahead : IsFront lists (Ahead body true ∷ []) behind f (cost + 1)
+pub record IsFrontOfOwn (lists : NodeLists) (body : ListId) (behind : Option Front) (f : Front) (cost : ℕ) : Type 0
+  where
+    pub atomic : IsFront lists (Atomic body ∷ []) behind f (cost + 1)
+    pub ahead : IsFront lists (Ahead body true ∷ []) behind f (cost + 1)
 
 -- a repeat of a list, apart from the visit for its node
-pub record IsFrontOfRepeat (lists : NodeLists) (body : ListId) (least : ℕ) (behind : Option Front) (f : Front) (cost : ℕ) :
+pub record IsFrontOfRepeat (lists : NodeLists) (body : ListId) (least : ℕ) (behind : Option Front) (f : Front)
+    (cost : ℕ) :
     Type 0 where
   pub is : (most : Option ℕ) (greedy : Bool) → IsFront lists (Repeat body least most greedy ∷ []) behind f (cost + 1)
 

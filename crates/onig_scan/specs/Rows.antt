@@ -1,6 +1,9 @@
--- Which patterns of a scanner may match at a place, told by the character that stands there and by whether a line begins
+-- Which patterns of a scanner may match at a place, told by the character that stands there and by whether a line
+-- begins
 -- there. It spares attempts, and changes no answer.
-use Rattle.std.specs.Prelude.{◌≡◌, ℕ, ◌+◌, ◌-◌, ◌*◌, ◌/◌, ◌%◌, ◌<◌, ◌≤◌, ◌==◌, ◌||◌, ◌&&◌, Bool, false, true, nat_lt, if◌then◌else◌, List, drop, length, Option, Some, None, IfSome, IsSomeAnd, slice_get, slice_index}
+use Rattle.std.specs.Prelude.{◌≡◌, ℕ, ◌+◌, ◌-◌, ◌*◌, ◌/◌, ◌%◌, ◌<◌, ◌≤◌, ◌==◌, ◌||◌, ◌&&◌, Bool, false, true, nat_lt}
+use Rattle.std.specs.Prelude.{if◌then◌else◌, List, drop, length, Option, Some, None, IfSome, IsSomeAnd, slice_get}
+use Rattle.std.specs.Prelude.{slice_index}
 use Rattle.std.specs.Int.{bit_at}
 use Rattle.pattern_defs.specs.declared.nodes.PatNode.{PatNode}
 use Rattle.pattern_defs.specs.declared.outcomes.Flags.{Flags}
@@ -35,7 +38,8 @@ pub record HasNone (ranges : List CharRange) (class : ℕ) : Type 0 where
 -- an attempt of the pattern misses wherever such a character stands, where so many visits are left
 pub record IsSparedAt (tree : Tree) (class cost : ℕ) : Type 0 where
   pub misses : (text : List ℕ) (at : ℕ) (flags : Flags) (budget : ℕ) → IsScalarAt text at →
-      class_of (slice_get text at) ≡ class → cost ≤ budget → (rest : ℕ) × (attempt tree text at flags budget ≡ Miss rest)
+      class_of (slice_get text at) ≡ class → cost ≤ budget → (rest : ℕ)
+      × (attempt tree text at flags budget ≡ Miss rest)
 
 -- the same wherever no line begins
 pub record IsSparedInLine (tree : Tree) (cost : ℕ) : Type 0 where
@@ -49,7 +53,8 @@ pub record IsSpared (tree : Tree) (row cost : ℕ) : Type 0 where
 
 -- the bits that aren't set are of patterns that are spared; the lowest is that of the pattern `first`
 pub record IsWord (trees : List Tree) (row first cost word : ℕ) : Type 0 where
-  pub spares : (j : ℕ) → j < 64 → bit_at word j ≡ 0 → IfSome (slice_get trees (first + j)) (λ tree. IsSpared tree row cost)
+  pub spares : (j : ℕ) → j < 64 → bit_at word j ≡ 0
+      → IfSome (slice_get trees (first + j)) (λ tree. IsSpared tree row cost)
 
 -- the words of each row, row by row
 pub record AreRows (trees : List Tree) (words cost : ℕ) (rows : List ℕ) : Type 0 where
@@ -64,7 +69,8 @@ abbrev pub first_from : List Tree → ℕ → ℕ → List ℕ → Flags → ℕ
 first_from trees first at text flags budget = first_of (pairs_at first (drop first trees) at) text flags budget
 
 -- what a search at one place answers, where it begins with the pattern of a number
-pub record IsDecided (trees : List Tree) (first at : ℕ) (text : List ℕ) (flags : Flags) (old new : Worked) (result : Found) :
+pub record IsDecided (trees : List Tree) (first at : ℕ) (text : List ℕ) (flags : Flags) (old new : Worked)
+    (result : Found) :
     Type 0 where
   pub pair : Pair
   pub decides : first_from trees first at text flags old.budget ≡ Some pair
@@ -78,9 +84,10 @@ pub record IsDecided (trees : List Tree) (first at : ℕ) (text : List ℕ) (fla
   pub whole : IfAt result (λ _. IsSomeAnd (capture_of new.hit 0) (λ place. place.from ≡ at))
 
 -- no pattern between two numbers decides, and nothing changes
-pub record GoesOn (trees : List Tree) (first next at : ℕ) (text : List ℕ) (flags : Flags) (old new : Worked) : Type 0 where
-  pub missed : first_from trees next at text flags old.budget ≡ first_from trees first at text flags old.budget
-  pub same : new ≡ old
+pub record GoesOn (trees : List Tree) (first next at : ℕ) (text : List ℕ) (flags : Flags) (old new : Worked) : Type 0
+  where
+    pub missed : first_from trees next at text flags old.budget ≡ first_from trees first at text flags old.budget
+    pub same : new ≡ old
 
 -- no pattern decides at a place, and nothing changes
 pub record IsPassed (trees : List Tree) (at : ℕ) (text : List ℕ) (flags : Flags) (old new : Worked) : Type 0 where

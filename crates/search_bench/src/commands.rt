@@ -25,8 +25,12 @@ fn tell(rt: &HostRuntime, name: &str, tally: Tally, time: Option<u64>) -> Result
         sum,
     } = tally;
     match time {
-        Some(ns) => println!(rt; "{name} searches={searches} matches={matches} spent={spent} sum={sum:016x} ns={ns}")?,
-        None => println!(rt; "{name} searches={searches} matches={matches} spent={spent} sum={sum:016x}")?,
+        Some(ns) => println!(rt;
+            "{name} searches={searches} matches={matches} spent={spent} sum={sum:016x} ns={ns}"
+        )?,
+        None => println!(rt;
+            "{name} searches={searches} matches={matches} spent={spent} sum={sum:016x}"
+        )?,
     }
     Ok(())
 }
@@ -41,7 +45,13 @@ fn each(rt: &HostRuntime, given: &Given, timed: bool) -> Result<()> {
         let mut work = Work::new(alloc, BUDGET, scanner.groups())?;
         let numbers = [named.number];
         let start = nanoseconds(rt)?;
-        search(&scanner, &mut work, &given.lines, numbers.as_slice(), &mut tally);
+        search(
+            &scanner,
+            &mut work,
+            &given.lines,
+            numbers.as_slice(),
+            &mut tally,
+        );
         time = time.saturating_add(nanoseconds(rt)?.saturating_sub(start));
     }
     tell(rt, "each", tally, timed.then_some(time))
@@ -55,7 +65,13 @@ fn all(rt: &HostRuntime, given: &Given, timed: bool) -> Result<()> {
     let scanner = given.scanner(alloc)?;
     let mut work = Work::new(alloc, BUDGET, scanner.groups())?;
     let start = nanoseconds(rt)?;
-    search(&scanner, &mut work, &given.lines, numbers.as_slice(), &mut tally);
+    search(
+        &scanner,
+        &mut work,
+        &given.lines,
+        numbers.as_slice(),
+        &mut tally,
+    );
     let time = nanoseconds(rt)?.saturating_sub(start);
     tell(rt, "all", tally, timed.then_some(time))
 }

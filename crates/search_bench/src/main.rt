@@ -23,6 +23,8 @@ use anyhow::Result;
 use std::env;
 
 fn main(rt: HostRuntime) -> Result<()> {
-    let timed = env::args(&rt)?.into_iter().any(|word| word.as_str() == "times");
+    let timed = env::args(&rt)?
+        .into_iter()
+        .any(|word| word.as_str() == "times");
     run(&rt, timed)
 }

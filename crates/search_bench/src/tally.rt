@@ -19,9 +19,11 @@ pub(crate) const NONE_YET: Tally = Tally {
 
 /// A number made of two.
 pub(crate) fn mixed(hash: u64, next: u64) -> u64 {
-    let hash = (hash ^ next.wrapping_add(0x9e37_79b9_7f4a_7c15)
-        .wrapping_add(hash << 6)
-        .wrapping_add(hash >> 2))
+    let hash = (hash
+        ^ next
+            .wrapping_add(0x9e37_79b9_7f4a_7c15)
+            .wrapping_add(hash << 6)
+            .wrapping_add(hash >> 2))
         .wrapping_mul(0xff51_afd7_ed55_8ccd);
     hash ^ (hash >> 33)
 }

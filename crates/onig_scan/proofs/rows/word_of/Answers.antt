@@ -10,5 +10,6 @@ loop-k-preserved c =
       | then-may_match_at w ↦ bits_more _ _ _ _ _ _ _ c.may_match_at.result c.loop-k-test.true (λ _. w.word-is)
           (λ no. absurd (true≢false (sym w.if-may_match_at.true ∙ no))) c.loop-k.invariant c.may_match_at.ensures
       | else-may_match_at w ↦ bits_more _ _ _ _ _ _ _ c.may_match_at.result c.loop-k-test.true
-          (λ yes. absurd (true≢false (sym yes ∙ w.if-may_match_at.false))) (λ _. w.word-is) c.loop-k.invariant c.may_match_at.ensures
+          (λ yes. absurd (true≢false (sym yes ∙ w.if-may_match_at.false))) (λ _. w.word-is) c.loop-k.invariant
+          c.may_match_at.ensures
     ]

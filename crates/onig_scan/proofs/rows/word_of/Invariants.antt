@@ -7,4 +7,5 @@ use Rattle.onig_scan.proofs.rows.word_of.Given as goal
 
 -- what the bits so far say
 abbrev pub invariant-loop-k : goal.invariant-loop-k
-invariant-loop-k l = (j : ℕ) → j < l.k → bit_at l.word j ≡ 0 → IfSome (slice_get l.entries (l.first + j)) (λ tree. IsSpared tree l.row ROW_VISITS)
+invariant-loop-k l = (j : ℕ) → j < l.k → bit_at l.word j ≡ 0
+    → IfSome (slice_get l.entries (l.first + j)) (λ tree. IsSpared tree l.row ROW_VISITS)

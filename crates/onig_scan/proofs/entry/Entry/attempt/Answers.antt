@@ -6,7 +6,8 @@ use Rattle.onig_scan.specs.Fronts.{IsFrontOfAll}
 use Rattle.onig_scan.proofs.entry.Entry.attempt.Goals as goal
 
 -- the attempt that is spared misses
-spared : (c : goal.Then-misses_at) → (rest : ℕ) × (attempted c.args.self.now c.args.text.now c.args.at c.args.flags c.args.work.now.budget ≡ Miss rest)
+spared : (c : goal.Then-misses_at) → (rest : ℕ)
+    × (attempted c.args.self.now c.args.text.now c.args.at c.args.flags c.args.work.now.budget ≡ Miss rest)
 spared c =
     let Front : Tree → Type 0 = λ tree. IsFrontOfAll tree c.in-Some.front.set c.in-Some.front.cost in
     let front : Front (rc_value c.self.inside.pattern) = rw c.in-Some.is at c.self.invariant.is in

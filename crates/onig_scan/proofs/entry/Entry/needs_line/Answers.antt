@@ -11,4 +11,5 @@ returns-in-Some c = λ few.
     let fits : c.in-Some.visits ≤ c.from.result = leb-true c.in-Some.visits c.from.result few in
     let InLine : Tree → Type 0 = λ tree. IsSparedInLine tree c.in-Some.visits in
     let is : InLine (rc_value c.self.inside.pattern) = rw c.in-Some.is at c.self.invariant.line in
-    more_in_line c.args.self.now c.in-Some.visits _ (omega (arith, fits, c.from.ensures)) (subst InLine c.self.view_is is)
+    more_in_line c.args.self.now c.in-Some.visits _ (omega (arith, fits, c.from.ensures))
+    (subst InLine c.self.view_is is)
