@@ -1,7 +1,7 @@
 -- How many visits nodes take at most, by cases on the first of them.
 use Rattle.std.proofs.Common.{◌≡◌, ℕ, zero, suc, ◌+◌, ◌-◌, ◌<◌, ◌≤◌, Bool, true, false, List, [], ◌∷◌, ◌++◌, length}
-use Rattle.std.proofs.Common.{map, get_or, Option, Some, None, refl, sym, ap, subst, arith}
-use Rattle.std.specs.Prelude.{nat_lt, nat_le, slice_get, IfSome, SomeIff, ◌==◌, ◌&&◌, not, ◌||◌}
+use Rattle.std.proofs.Common.{map, get_or, Option, Some, None, sym, subst, arith}
+use Rattle.std.specs.Prelude.{nat_lt, nat_le, slice_get, IfSome, SomeIff, ◌==◌, ◌&&◌}
 use Rattle.char_sets.specs.Ranges.{in_set}
 use Rattle.char_sets.specs.declared.char_set.CharRange.{CharRange}
 use Rattle.pattern_defs.specs.declared.nodes.ListId.{ListId}
@@ -13,10 +13,10 @@ use Rattle.pattern_defs.specs.declared.nodes.PatNode.TheVariants.{Atomic, Back}
 use Rattle.pattern_defs.specs.declared.outcomes.Flags.{Flags}
 use Rattle.pattern_defs.specs.declared.outcomes.Place.{Place}
 use Rattle.pattern_defs.specs.Patterns.{NodeLists, AllIds, AllArms, nodes_of, AreBounds as IsLeastWithin}
-use Rattle.pattern_defs.specs.Attempt.{Subject, Todo, Node, Close, Again, Captures, Ran, Hit, Miss, Spent, Going, act}
-use Rattle.pattern_defs.specs.Attempt.{go_on, tries, before, looked, arms_run, backs, capture_of, repeat_ways}
+use Rattle.pattern_defs.specs.Attempt.{Subject, Todo, Node, Close, Again, Captures}
+use Rattle.pattern_defs.specs.Attempt.{go_on, before, arms_run, backs, capture_of, repeat_ways}
 use Rattle.pattern_defs.specs.Attempt.{is_greatest, is_char, stands_again, where_holds}
-use Rattle.onig_scan.specs.Runs.{EndsWith, EndsFrom, Anywhere, Nowhere, left_of}
+use Rattle.onig_scan.specs.Runs.{EndsWith, Anywhere}
 use Rattle.onig_scan.specs.Bounds.{subject_of, IsBoundOf, IsBound, AreBounds, AreArmBounds}
 use Rattle.onig_scan.proofs.Runs.{misses_now, at_more, ends_else, ends_where, ends_looked, from_act, ends_empty}
 use Rattle.onig_scan.proofs.Runs.{AllEnd, ends_tries, ends_At, ends_Close, ends_Group, ends_Choice, ends_Ahead}

@@ -1,6 +1,6 @@
 -- Which nodes miss without a character of a set, by cases on the first of them.
-use Rattle.std.proofs.Common.{◌≡◌, ℕ, zero, suc, ◌+◌, ◌<◌, ◌≤◌, Bool, true, false, List, [], ◌∷◌, ◌++◌, length, map}
-use Rattle.std.proofs.Common.{get_or, Option, Some, None, refl, sym, ap, ◌∙◌, subst, arith}
+use Rattle.std.proofs.Common.{◌≡◌, ℕ, ◌+◌, ◌<◌, ◌≤◌, Bool, true, false, List, [], ◌∷◌, ◌++◌, map}
+use Rattle.std.proofs.Common.{Option, Some, None, refl, sym, ◌∙◌, subst, arith}
 use Rattle.std.proofs.lemmas.Bool.{lt-ltb, false≢true}
 use Rattle.std.specs.Prelude.{Result, Ok, Err, IfOk, nat_lt, slice_get, IfSome, IsSomeAnd, replicate}
 use Rattle.char_sets.specs.Ranges.{in_set}
@@ -9,17 +9,17 @@ use Rattle.pattern_defs.specs.declared.nodes.ListId.{ListId}
 use Rattle.pattern_defs.specs.declared.nodes.Arm.{Arm}
 use Rattle.pattern_defs.specs.declared.nodes.Anchor.{Anchor}
 use Rattle.pattern_defs.specs.declared.nodes.PatNode.{PatNode}
-use Rattle.pattern_defs.specs.declared.nodes.PatNode.TheVariants.{One, At, Choice, Group, Repeat, Ahead, Behind, Atomic}
+use Rattle.pattern_defs.specs.declared.nodes.PatNode.TheVariants.{One, At, Choice, Group, Ahead, Behind}
 use Rattle.pattern_defs.specs.declared.outcomes.Flags.{Flags}
-use Rattle.pattern_defs.specs.Patterns.{NodeLists, Tree, AllIds, nodes_of}
+use Rattle.pattern_defs.specs.Patterns.{NodeLists, Tree, nodes_of}
 use Rattle.pattern_defs.specs.Attempt.{Subject, Todo, Node, Close, Again, Captures, Ran, Hit, Miss, Spent, is_char}
-use Rattle.pattern_defs.specs.Attempt.{go_on, looked, before, repeat_ways, is_greatest, attempt, with_whole}
+use Rattle.pattern_defs.specs.Attempt.{go_on, before, repeat_ways, is_greatest, with_whole}
 use Rattle.onig_scan.specs.declared.front.Front.{Front}
-use Rattle.onig_scan.specs.Runs.{EndsWith, EndsFrom, Anywhere, Nowhere, left_of}
-use Rattle.onig_scan.specs.Bounds.{subject_of, IsBoundOf, IsBound, AreArmBounds}
+use Rattle.onig_scan.specs.Runs.{EndsWith, EndsFrom, Nowhere}
+use Rattle.onig_scan.specs.Bounds.{subject_of, IsBound, AreArmBounds}
 use Rattle.onig_scan.specs.Fronts.{IsWithout, IsBare, Stays, IsFrontOf, IsBehind, IsFront, AreFronts, IsWithin}
 use Rattle.onig_scan.specs.Fronts.{IsWider, IsFrontOfOwn, IsFrontOfRepeat, IsFrontOfAll}
-use Rattle.onig_scan.proofs.Runs.{misses_now, at_more, ends_where, ends_looked, from_act, ends_empty, AllEnd, ends_At}
+use Rattle.onig_scan.proofs.Runs.{at_more, ends_where, ends_looked, from_act, ends_empty, AllEnd, ends_At}
 use Rattle.onig_scan.proofs.Runs.{ends_Close, ends_Group, ends_Choice, ends_Ahead, ends_needed, ends_whole}
 use Rattle.onig_scan.proofs.Runs.{ends_Atomic, ends_Repeat, ends_stuck, ends_narrow}
 use Rattle.onig_scan.proofs.BoundLaws.{own_bound, arms_bound}

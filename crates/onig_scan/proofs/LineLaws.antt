@@ -1,17 +1,16 @@
 -- Nodes that miss wherever no line begins.
-use Rattle.std.proofs.Common.{◌≡◌, ℕ, ◌+◌, ◌≤◌, Bool, true, false, List, [], ◌∷◌, ◌++◌, map, Option, Some, None, refl}
+use Rattle.std.proofs.Common.{◌≡◌, ℕ, ◌+◌, List, [], ◌∷◌, ◌++◌, map, None, refl}
 use Rattle.std.proofs.Common.{sym, ◌∙◌, arith}
 use Rattle.std.proofs.lemmas.Bool.{false≢true}
-use Rattle.std.specs.Prelude.{IfSome, replicate}
+use Rattle.std.specs.Prelude.{replicate}
 use Rattle.pattern_defs.specs.declared.nodes.ListId.{ListId}
 use Rattle.pattern_defs.specs.declared.nodes.Anchor.TheVariants.{LineStart}
 use Rattle.pattern_defs.specs.declared.nodes.PatNode.{PatNode}
 use Rattle.pattern_defs.specs.declared.nodes.PatNode.TheVariants.{At, Group}
-use Rattle.pattern_defs.specs.declared.outcomes.Flags.{Flags}
 use Rattle.pattern_defs.specs.Patterns.{NodeLists, Tree, nodes_of}
-use Rattle.pattern_defs.specs.Attempt.{Todo, Node, Close, Captures, Ran, Hit, Miss, Spent, go_on, before, attempt}
+use Rattle.pattern_defs.specs.Attempt.{Node, Close, Captures, Ran, Hit, Miss, Spent, go_on, before}
 use Rattle.pattern_defs.specs.Attempt.{with_whole}
-use Rattle.onig_scan.specs.Runs.{EndsWith, EndsFrom, Nowhere}
+use Rattle.onig_scan.specs.Runs.{EndsWith, Nowhere}
 use Rattle.onig_scan.specs.Bounds.{subject_of}
 use Rattle.onig_scan.specs.Lines.{NeedsLine}
 use Rattle.onig_scan.specs.Rows.{line_begins, IsSparedInLine}

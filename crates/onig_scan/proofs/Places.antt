@@ -1,23 +1,20 @@
 -- A search at one place, pattern by pattern.
-use Rattle.std.proofs.Common.{◌≡◌, ◌≢◌, ℕ, zero, suc, ◌+◌, ◌-◌, ◌*◌, ◌/◌, ◌%◌, ◌^◌, ◌<◌, ◌≤◌, Bool, true, false, List}
-use Rattle.std.proofs.Common.{[], ◌∷◌, ◌++◌, length, map, drop, get_or, Option, Some, None, refl, sym, ap, ◌∙◌, subst}
+use Rattle.std.proofs.Common.{◌≡◌, ℕ, zero, suc, ◌+◌, ◌-◌, ◌<◌, ◌≤◌, true, false, List}
+use Rattle.std.proofs.Common.{[], ◌∷◌, length, drop, get_or, Option, Some, None, refl, sym, ap, ◌∙◌, subst}
 use Rattle.std.proofs.Common.{arith, inl, inr}
 use Rattle.std.proofs.lemmas.List.{drop_more, drop_all}
 use Rattle.std.proofs.lemmas.Option.{slice_get_cases, slice_get-get_or}
-use Rattle.std.proofs.lemmas.Nat.Bits.{bit_at-zero, bit_at_above}
 use Rattle.std.specs.Int.{bit_at}
-use Rattle.std.specs.Prelude.{slice_get, find, is_some, IfSome, IfNone, IsSomeAnd}
+use Rattle.std.specs.Prelude.{slice_get, is_some, IfSome, IfNone, IsSomeAnd}
 use Rattle.std.proofs.lemmas.Bool.{true≢false}
 use Rattle.pattern_defs.specs.declared.outcomes.Flags.{Flags}
 use Rattle.pattern_defs.specs.declared.outcomes.Found.{Found}
 use Rattle.pattern_defs.specs.declared.outcomes.Found.TheVariants as found
-use Rattle.pattern_defs.specs.declared.outcomes.Outcome.{Outcome}
 use Rattle.pattern_defs.specs.declared.outcomes.Outcome.TheVariants as outcomes
 use Rattle.pattern_defs.specs.Patterns.{Tree}
 use Rattle.pattern_defs.specs.Attempt.{Ran, Hit, Miss, Spent, attempt, outcome_of, last_hit_captures, capture_of}
-use Rattle.pattern_defs.specs.FirstMatch.{Pair, pairs_at, tried, is_no_miss, first_of, answer_by, found_at, captures_at}
+use Rattle.pattern_defs.specs.FirstMatch.{pairs_at, is_no_miss, first_of, answer_by}
 use Rattle.onig_match.specs.Works.{Worked, IsPart}
-use Rattle.onig_scan.specs.Answers.{IsAmong, IfAt}
 use Rattle.onig_scan.specs.Rows.{row_of, IsScalarAt, IsSpared, IsWord, first_from, IsDecided, GoesOn, IsPassed}
 
 -- the pattern of a number, and those behind it

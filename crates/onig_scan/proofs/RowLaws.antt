@@ -1,15 +1,14 @@
 -- Which attempts are spared at the places of a row.
-use Rattle.std.proofs.Common.{◌≡◌, ◌≢◌, ℕ, zero, suc, ◌+◌, ◌-◌, ◌*◌, ◌/◌, ◌%◌, ◌^◌, ◌<◌, ◌≤◌, Bool, true, false, List}
-use Rattle.std.proofs.Common.{[], ◌∷◌, ◌++◌, length, map, drop, get_or, Option, Some, None, refl, sym, ap, ◌∙◌, subst}
+use Rattle.std.proofs.Common.{◌≡◌, ℕ, ◌+◌, ◌-◌, ◌<◌, ◌≤◌, Bool, true, false, List}
+use Rattle.std.proofs.Common.{Option, Some, None, refl}
 use Rattle.std.proofs.Common.{arith}
-use Rattle.std.proofs.lemmas.Bool.{false≢true}
-use Rattle.std.specs.Prelude.{nat_lt, slice_get, IfSome, IsTrue, replicate, if◌then◌else◌}
+use Rattle.std.specs.Prelude.{nat_lt, slice_get, if◌then◌else◌}
 use Rattle.char_sets.specs.declared.char_set.CharRange.{CharRange}
 use Rattle.pattern_defs.specs.declared.outcomes.Flags.{Flags}
 use Rattle.pattern_defs.specs.Patterns.{Tree}
 use Rattle.pattern_defs.specs.Attempt.{Miss, attempt}
-use Rattle.onig_scan.specs.Fronts.{IsFrontOfAll, IsWithout}
-use Rattle.onig_scan.specs.Rows.{class_of, line_begins, row_of, IsScalarAt, HasNone, IsSparedAt, IsSparedInLine}
+use Rattle.onig_scan.specs.Fronts.{IsFrontOfAll}
+use Rattle.onig_scan.specs.Rows.{class_of, line_begins, IsScalarAt, HasNone, IsSparedAt, IsSparedInLine}
 use Rattle.onig_scan.specs.Rows.{IsSpared}
 
 pub more_in_line : (tree : Tree) (cost more : ℕ) → cost ≤ more → IsSparedInLine tree cost → IsSparedInLine tree more

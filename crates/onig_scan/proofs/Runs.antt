@@ -1,17 +1,15 @@
 -- How runs end, by what they do at the first of what is still to match.
-use Rattle.std.proofs.Common.{◌≡◌, ℕ, zero, suc, ◌+◌, ◌-◌, ◌<◌, ◌≤◌, Bool, true, false, List, [], ◌∷◌, ◌++◌, map}
-use Rattle.std.proofs.Common.{Option, refl, sym, ap, subst, arith}
-use Rattle.std.specs.Prelude.{nat_lt, nat_le, slice_get, ◌==◌, ◌&&◌}
+use Rattle.std.proofs.Common.{◌≡◌, ℕ, zero, suc, ◌+◌, ◌≤◌, Bool, true, false, List, [], ◌∷◌, map}
+use Rattle.std.proofs.Common.{Option, refl, sym, subst, arith}
+use Rattle.std.specs.Prelude.{nat_lt, ◌==◌}
 use Rattle.pattern_defs.specs.declared.nodes.ListId.{ListId}
-use Rattle.pattern_defs.specs.declared.nodes.Arm.{Arm}
 use Rattle.pattern_defs.specs.declared.nodes.Anchor.{Anchor}
-use Rattle.pattern_defs.specs.declared.nodes.PatNode.TheVariants.{One, At, Choice, Group, Repeat, Ahead, Behind}
-use Rattle.pattern_defs.specs.declared.nodes.PatNode.TheVariants.{Atomic, Back}
+use Rattle.pattern_defs.specs.declared.nodes.PatNode.TheVariants.{At, Choice, Group, Repeat, Ahead}
+use Rattle.pattern_defs.specs.declared.nodes.PatNode.TheVariants.{Atomic}
 use Rattle.pattern_defs.specs.Attempt.{Subject, Todo, Node, Close, Again, Captures, Ran, Hit, Miss, Spent, Going, act}
-use Rattle.pattern_defs.specs.Attempt.{go_on, tries, or_else, where_holds, before, holds_at, looked, arms_run}
-use Rattle.pattern_defs.specs.Attempt.{kept_whole, backs, capture_of, repeat_ways, is_greatest, is_char, stands_again}
-use Rattle.char_sets.specs.Ranges.{in_set}
-use Rattle.onig_scan.specs.Runs.{IsEnd, left_of, EndsWith, EndsFrom, Anywhere, Nowhere}
+use Rattle.pattern_defs.specs.Attempt.{go_on, tries, or_else, where_holds, before, holds_at, looked}
+use Rattle.pattern_defs.specs.Attempt.{kept_whole, repeat_ways, is_greatest}
+use Rattle.onig_scan.specs.Runs.{left_of, EndsWith, EndsFrom, Nowhere}
 
 -- a look takes one visit
 go_on-empty : (s : Subject) (fuel at : ℕ) (captures : Captures) (left : ℕ) →

@@ -1,7 +1,7 @@
 -- Searches, pair by pair and place by place.
-use Rattle.std.proofs.Common.{◌≡◌, ℕ, suc, ◌+◌, ◌-◌, ◌≤◌, Bool, true, false, List, [], ◌∷◌, ◌++◌, length, Option}
-use Rattle.std.proofs.Common.{Some, None, refl, sym, ap, ◌∙◌, subst, arith}
-use Rattle.std.specs.Prelude.{find, IsSomeAnd}
+use Rattle.std.proofs.Common.{◌≡◌, ℕ, suc, ◌+◌, ◌-◌, ◌≤◌, List, ◌++◌, length, Option}
+use Rattle.std.proofs.Common.{Some, None, sym, ap, ◌∙◌, arith}
+use Rattle.std.specs.Prelude.{IsSomeAnd}
 use Rattle.std.specs.List.{flat_map}
 use Rattle.std.specs.Option.{option_or}
 use Rattle.std.proofs.lemmas.List.Folds.{find-append}
@@ -12,9 +12,7 @@ use Rattle.pattern_defs.specs.declared.outcomes.Found.TheVariants as found
 use Rattle.pattern_defs.specs.declared.outcomes.Found.TheVariants.{At, Nowhere}
 use Rattle.pattern_defs.specs.declared.outcomes.Place.{Place}
 use Rattle.pattern_defs.specs.Patterns.{Tree}
-use Rattle.pattern_defs.specs.Attempt.{Ran, Hit, Miss, Spent}
 use Rattle.pattern_defs.specs.FirstMatch.{Pair, pairs_at, places, pairs, tried, is_no_miss, first_of, first_pair}
-use Rattle.pattern_defs.specs.FirstMatch.{answer_by, found_at}
 use Rattle.onig_scan.specs.Answers.{IsAmong, IfAt}
 
 -- places, one after the other

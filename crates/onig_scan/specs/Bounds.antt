@@ -1,5 +1,5 @@
 -- How many visits nodes take at most, whatever the text: where they hold no repeat of an open number.
-use Rattle.std.specs.Prelude.{ℕ, ◌+◌, ◌≤◌, List, [], ◌∷◌, ◌++◌, map, Option}
+use Rattle.std.specs.Prelude.{ℕ, ◌+◌, ◌≤◌, List, [], ◌∷◌, ◌++◌, map}
 use Rattle.pattern_defs.specs.declared.nodes.ListId.{ListId}
 use Rattle.pattern_defs.specs.declared.nodes.Arm.{Arm}
 use Rattle.pattern_defs.specs.declared.nodes.PatNode.{PatNode}

@@ -9,7 +9,7 @@ use Rattle.pattern_defs.specs.declared.nodes.PatNode.{PatNode}
 use Rattle.pattern_defs.specs.declared.nodes.PatNode.TheVariants.{Ahead, Atomic, Repeat}
 use Rattle.pattern_defs.specs.declared.outcomes.Flags.{Flags}
 use Rattle.pattern_defs.specs.Patterns.{NodeLists, Tree, nodes_of}
-use Rattle.pattern_defs.specs.Attempt.{Subject, Todo, Node, Captures, Ran, Miss, is_char, attempt}
+use Rattle.pattern_defs.specs.Attempt.{Subject, Todo, Node, Miss, is_char, attempt}
 use Rattle.onig_scan.specs.declared.front.Front.{Front}
 use Rattle.onig_scan.specs.Runs.{EndsFrom}
 use Rattle.onig_scan.specs.Bounds.{subject_of}

@@ -1,15 +1,14 @@
 -- Which patterns of a scanner may match at a place, told by the character that stands there and by whether a line
 -- begins
 -- there. It spares attempts, and changes no answer.
-use Rattle.std.specs.Prelude.{◌≡◌, ℕ, ◌+◌, ◌-◌, ◌*◌, ◌/◌, ◌%◌, ◌<◌, ◌≤◌, ◌==◌, ◌||◌, ◌&&◌, Bool, false, true, nat_lt}
+use Rattle.std.specs.Prelude.{◌≡◌, ℕ, ◌+◌, ◌*◌, ◌/◌, ◌%◌, ◌<◌, ◌≤◌, ◌==◌, ◌||◌, ◌&&◌, Bool, false, nat_lt}
 use Rattle.std.specs.Prelude.{if◌then◌else◌, List, drop, length, Option, Some, None, IfSome, IsSomeAnd, slice_get}
 use Rattle.std.specs.Prelude.{slice_index}
 use Rattle.std.specs.Int.{bit_at}
-use Rattle.pattern_defs.specs.declared.nodes.PatNode.{PatNode}
 use Rattle.pattern_defs.specs.declared.outcomes.Flags.{Flags}
 use Rattle.pattern_defs.specs.declared.outcomes.Found.{Found}
-use Rattle.pattern_defs.specs.Patterns.{NodeLists, Tree}
-use Rattle.pattern_defs.specs.Attempt.{Todo, Node, Miss, attempt, char_before, is_char, is_line_feed, capture_of}
+use Rattle.pattern_defs.specs.Patterns.{Tree}
+use Rattle.pattern_defs.specs.Attempt.{Miss, attempt, char_before, is_char, is_line_feed, capture_of}
 use Rattle.char_sets.specs.Ranges.{in_set}
 use Rattle.char_sets.specs.declared.char_set.CharRange.{CharRange}
 use Rattle.pattern_defs.specs.FirstMatch.{Pair, pairs_at, first_of, found_at, captures_at}

@@ -1,6 +1,6 @@
 use Rattle.std.proofs.Common.{◌≡◌, Some, ap, sym, ◌∙◌}
 use Rattle.std.proofs.lemmas.List.{take_more}
-use Rattle.onig_scan.proofs.BoundLaws.{IsBound-nil, IsBound-cons, IsBound-One, IsBound-At, IsBound-Back}
+use Rattle.onig_scan.proofs.BoundLaws.{IsBound-One, IsBound-At, IsBound-Back}
 use Rattle.onig_scan.proofs.BoundLaws.{IsBound-Group, IsBound-Choice, IsBound-Ahead, IsBound-Atomic, IsBound-Behind}
 use Rattle.onig_scan.proofs.BoundLaws.{IsBound-never, IsBound-once, AreBounds-push, AreArmBounds-push, of_sum}
 use Rattle.onig_scan.proofs.BoundLaws.{id_below, arm_below, if_some}

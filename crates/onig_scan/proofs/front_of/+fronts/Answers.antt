@@ -1,9 +1,9 @@
 use Rattle.pattern_defs.specs.declared.nodes.PatNode.TheVariants.{One}
-use Rattle.std.proofs.Common.{◌≡◌, ◌∷◌, ◌+◌, refl, Some, None, true, false}
+use Rattle.std.proofs.Common.{◌≡◌, ◌∷◌, ◌+◌, Some}
 use Rattle.std.proofs.lemmas.List.{take_more}
 use Rattle.onig_scan.proofs.BoundLaws.{id_below}
-use Rattle.onig_scan.proofs.FrontLaws.{lifted, if_found, copied_more, copied_front, any_front, more_front}
-use Rattle.onig_scan.proofs.FrontLaws.{IsFront-cost, IsFront-nil, IsFront-cons, IsFront-One, at_front, IsFront-Group}
+use Rattle.onig_scan.proofs.FrontLaws.{lifted, if_found, copied_more, more_front}
+use Rattle.onig_scan.proofs.FrontLaws.{IsFront-cost, IsFront-cons, IsFront-One, at_front, IsFront-Group}
 use Rattle.onig_scan.proofs.FrontLaws.{IsFront-Choice, IsFront-Ahead, IsFront-Behind, IsFront-wider, AreFronts-wider}
 use Rattle.onig_scan.proofs.FrontLaws.{AreFronts-push, IsFrontOfOwn-some, IsFrontOfOwn-none, IsFrontOfRepeat-some}
 use Rattle.onig_scan.proofs.FrontLaws.{IsFrontOfRepeat-none}

@@ -1,5 +1,4 @@
 use Rattle.std.proofs.Common.{◌≡◌, ◌∷◌, refl}
-use Rattle.pattern_defs.specs.declared.nodes.Anchor.TheVariants.{LineStart}
 use Rattle.pattern_defs.specs.declared.nodes.PatNode.TheVariants.{At, Group}
 use Rattle.onig_scan.proofs.BoundLaws.{of_sum}
 use Rattle.onig_scan.proofs.LineLaws.{NeedsLine-At, NeedsLine-Group}

@@ -1,4 +1,3 @@
-use Rattle.std.proofs.Common.{ℕ, Option}
 use Rattle.onig_scan.proofs.BoundLaws.{if_some}
 use Rattle.onig_scan.proofs.LineLaws.{spared_in_line}
 use Rattle.onig_scan.proofs.line_start.line_visits.Goals as goal

@@ -1,5 +1,5 @@
-use Rattle.std.proofs.Common.{◌≡◌, ◌∙◌, sym, true, false}
-use Rattle.std.proofs.lemmas.Bool.{true≢false, false≢true}
+use Rattle.std.proofs.Common.{◌∙◌, sym}
+use Rattle.std.proofs.lemmas.Bool.{true≢false}
 use Rattle.onig_scan.proofs.WordBits.{bits_more}
 use Rattle.onig_scan.proofs.rows.word_of.Goals as goal
 use Rattle.onig_scan.proofs.rows.word_of.Goals.{then-may_match_at, else-may_match_at}

@@ -1,9 +1,8 @@
-use Rattle.std.proofs.Common.{◌≡◌, ℕ, ◌+◌, ◌-◌, ◌<◌, ◌≤◌, ◌∙◌, sym, ap, subst, arith, w64}
-use Rattle.std.specs.Int.{bit_at, trailing_zeros}
+use Rattle.std.proofs.Common.{◌≡◌, ℕ, ◌+◌, ◌-◌, ◌∙◌, sym, ap, subst, arith}
+use Rattle.std.specs.Int.{bit_at}
 use Rattle.std.proofs.lemmas.Nat.Bits.{bit_at-zero}
-use Rattle.onig_scan.specs.Rows.{GoesOn}
 use Rattle.onig_scan.proofs.Places.{skip_on, end_on, on_behind, decided_behind, on_if_none, if_decided}
-use Rattle.onig_scan.proofs.WordBits.{LowestBit, lowest_bit}
+use Rattle.onig_scan.proofs.WordBits.{lowest_bit}
 use Rattle.onig_scan.proofs.scanner.find_in_word.Goals as goal
 
 pub returns-then-index-entries-clause-missed : goal.returns-then-index-entries-clause-missed

@@ -1,4 +1,4 @@
-use Rattle.std.proofs.Common.{◌≡◌, ℕ, ◌∙◌, Option, subst, arith}
+use Rattle.std.proofs.Common.{◌≡◌, ◌∙◌, Option, subst, arith}
 use Rattle.pattern_defs.specs.FirstMatch.{Pair, pairs_at, first_of, first_pair, found_at, captures_at}
 use Rattle.onig_scan.proofs.Searches.{first_pair-decided, first_pair-missed}
 use Rattle.onig_scan.proofs.scanner.Scanner.find.Goals as goal

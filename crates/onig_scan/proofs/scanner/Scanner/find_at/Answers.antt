@@ -1,4 +1,3 @@
-use Rattle.std.proofs.Common.{◌≡◌}
 use Rattle.onig_scan.proofs.WordBits.{row_of_rows}
 use Rattle.onig_scan.proofs.scanner.Scanner.find_at.Goals as goal
 
