@@ -9,7 +9,7 @@ use onig_scan::Scanner;
 use std::rt::CpuClock;
 
 /// How many visits an attempt may take.
-const BUDGET: u32 = 1_000_000;
+const BUDGET: u32 = 500_000;
 
 fn nanoseconds(rt: &HostRuntime) -> Result<u64> {
     let nanos = rt.thread_cpu_time()?.as_nanos();
