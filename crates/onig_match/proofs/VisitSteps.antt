@@ -90,8 +90,9 @@ module _ (on : Searched) (old : Area) (repeat : Repeated) (count begun : ℕ) (r
 
   -- what the definition does at the repeat
   abbrev repeated : ℕ → Ran
-  repeated left = repeats (subject on) (goes (subject on)) repeat.body repeat.least repeat.most repeat.greedy count begun
-      later_todo at old.captures.items left
+  repeated left =
+      repeats (subject on) (goes (subject on)) repeat.body repeat.least repeat.most repeat.greedy count begun later_todo
+      at old.captures.items left
 
   abbrev goes_inner : ℕ → Ran
   goes_inner left = goes (subject on) inner_todo at old.captures.items left

@@ -10,6 +10,7 @@ use Rattle.std.specs.Int.{bit_at, trailing_zeros}
 use Rattle.std.specs.Prelude.{slice_get, IfSome, nat_lt, bit_or}
 use borrow.Author.Count.{below_more}
 use Rattle.pattern_defs.specs.Patterns.{Tree}
+use Rattle.onig_scan.specs.declared.rows.TheConstants.{ROWS}
 use Rattle.onig_scan.specs.Rows.{IsSpared, IsWord, AreRows, IsRow}
 
 -- a bit behind a shift
@@ -68,13 +69,13 @@ bits_more trees row first cost k old new false within set same before here =
     (λ j low zero. before j low (rw same' at zero)) (λ zero. here refl)
 
 -- the words of a row among all words
-pub row_of_rows : (trees : List Tree) (words cost row : ℕ) (rows : List ℕ) → row < 260 → length rows ≡ 260 * words
+pub row_of_rows : (trees : List Tree) (words cost row : ℕ) (rows : List ℕ) → row < ROWS → length rows ≡ ROWS * words
     → AreRows trees words cost rows →
     IsRow trees row cost rows (row * words) words
 row_of_rows trees words cost row rows low size are =
     record {
       is = λ k within.
-          let most : (row + 1) * words ≤ 260 * words = mul-le-mul_right words (omega arith) in
+          let most : (row + 1) * words ≤ ROWS * words = mul-le-mul_right words (omega arith) in
           let fits : row * words + k < length rows = omega (arith, most, size) in
           let one : IsWord trees ((row * words + k) / words) (64 * ((row * words + k) % words)) cost _ =
           are.is (row * words + k) fits in

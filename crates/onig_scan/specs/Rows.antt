@@ -13,6 +13,7 @@ use Rattle.char_sets.specs.Ranges.{in_set}
 use Rattle.char_sets.specs.declared.char_set.CharRange.{CharRange}
 use Rattle.pattern_defs.specs.FirstMatch.{Pair, pairs_at, first_of, found_at, captures_at}
 use Rattle.onig_match.specs.Works.{Worked, IsPart}
+use Rattle.onig_scan.specs.declared.rows.TheConstants.{CLASSES}
 use Rattle.onig_scan.specs.Answers.{IsAmong, IfAt}
 
 -- the characters of ASCII, all others together, and the text's end
@@ -25,7 +26,7 @@ line_begins text at = (at == 0) || (is_line_feed (char_before text at) && nat_lt
 
 -- a row for each of these, and another where a line begins
 abbrev pub row_of : List ℕ → ℕ → ℕ
-row_of text at = if line_begins text at then 130 + class_of (slice_get text at) else class_of (slice_get text at)
+row_of text at = if line_begins text at then CLASSES + class_of (slice_get text at) else class_of (slice_get text at)
 
 abbrev pub IsScalarAt : List ℕ → ℕ → Type 0
 IsScalarAt text at = IfSome (slice_get text at) (λ c. c < 1_114_112)
