@@ -150,8 +150,8 @@ fn front_of_own(
     }
 }
 
-/// The characters before a lookahead: where its visits are bounded, those of what stands behind it. Else those of its
-/// body, which are needed where it is wanted; where it isn't wanted, those behind it are needed too.
+/// The characters before a lookahead. Where it is wanted, those of its body will do, if they are known; else, where its
+/// visits are bounded, those of what stands behind it.
 #[cycle(fronts)]
 fn front_of_ahead(
     alloc: Global,
