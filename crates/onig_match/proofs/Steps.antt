@@ -20,7 +20,7 @@ use Rattle.onig_match.specs.Piles.{Piled}
 use Rattle.onig_match.specs.Machine.{subject, kept, chain, cell_todo, undone, captures_at, resumed, carried, ran_of}
 use Rattle.onig_match.specs.Machine.{with_entry, rank}
 use Rattle.onig_match.specs.Sound.{IsRest, IsCell, AreCells, IsResume, AreEntries, IsTaken, AreTaken, AreChanges}
-use Rattle.onig_match.specs.Sound.{IsSound, IsStep, Leads, AddsCell}
+use Rattle.onig_match.specs.Sound.{IsSound, IsStep, HasRoom, SameRooms, Leads, AddsCell}
 use Rattle.onig_match.proofs.Carries.{chain-older, chain-newest, todo_of-older, carry-cell, carry-entry}
 
 -- what holds of the parts
@@ -179,30 +179,6 @@ rank_small (Go point) = omega arith
 rank_small (Found at) = omega arith
 rank_small Failed = omega arith
 
--- where at most a cell was added
-pub lead_added : (on : Searched) (old area : Area) (answer : ℕ → Ran) (result : Step) → AddsCell on old area →
-    IsStep on (length area.cells.items) result → ((left : ℕ) →
-    carried (subject on) area (ran_of (subject on) area result left) ≡ answer left) →
-    Leads on 1 old answer area result
-lead_added on old area answer result adds step ends = record {
-  ends = ends;
-  sound = adds.sound;
-  step = step;
-  room = λ left has. record {
-    cells = omega (arith, has.cells, adds.at_most, adds.room);
-    entries = rw adds.entries (omega (arith, has.entries));
-    trail = rw adds.trail (omega (arith, has.trail));
-    small = omega (arith, has.small, adds.room);
-  };
-  rooms = record {
-    captures = ap (λ (p : Piled (Option Place)). p.room) adds.captures;
-    cells = adds.room;
-    entries = ap (λ (p : Piled Entry). p.room) adds.entries;
-    trail = ap (λ (p : Piled Change). p.room) adds.trail;
-  };
-  falls = rw adds.entries (omega (arith, rank_small result));
-}
-
 -- the entry that is made at a place
 abbrev pub made : Area → Resume → ℕ → Entry
 made area resume at = record {
@@ -224,34 +200,69 @@ sound_entered on area resume at sound there is = record {
   trail = sound.trail;
 }
 
--- where then an entry was made
-pub lead_entered : (on : Searched) (old area : Area) (answer : ℕ → Ran) (resume : Resume) (at : ℕ) (result : Step) →
-    AddsCell on old area → at ≤ length on.text.now → IsResume on.pattern.now (length area.cells.items) resume →
-    IsStep on (length area.cells.items) result → ((left : ℕ) →
-    carried (subject on) area (resumed (subject on) area.cells.items area.captures.items
-    resume at (ran_of (subject on) area result left)) ≡ answer left)
-    → Leads on 1 old answer (with_entry area (made area resume at)) result
-lead_entered on old area answer resume at result adds there is step ends = record {
-  ends = λ left.
-      carry-entry (subject on) area.cells.items area.trail.items area.captures.items (made area resume at)
-      area.entries.items
-      (ran_of (subject on) (with_entry area (made area resume at)) result left) refl refl ∙ ends left;
-  sound = sound_entered on area resume at adds.sound there is;
-  step = step;
-  room = λ left has. record {
-    cells = omega (arith, has.cells, adds.at_most, adds.room);
-    entries = rw adds.entries (omega (arith, has.entries));
-    trail = rw adds.trail (omega (arith, has.trail));
-    small = omega (arith, has.small, adds.room);
-  };
-  rooms = record {
+-- how a step leads on where at most a cell was added
+module _ (on : Searched) (old area : Area) (answer : ℕ → Ran) where
+  -- there is room for a visit less, and for one entry
+  fits : AddsCell on old area → (left : ℕ) → HasRoom old (left + 1) →
+      HasRoom area left × (length area.entries.items + 1 + left ≤ area.entries.room)
+  fits adds left has = (
+    record {
+      cells = omega (arith, has.cells, adds.at_most, adds.room);
+      entries = rw adds.entries (omega (arith, has.entries));
+      trail = rw adds.trail (omega (arith, has.trail));
+      small = omega (arith, has.small, adds.room);
+    },
+    rw adds.entries (omega (arith, has.entries)),
+  )
+
+  same_rooms : AddsCell on old area → SameRooms old area
+  same_rooms adds = record {
     captures = ap (λ (p : Piled (Option Place)). p.room) adds.captures;
     cells = adds.room;
     entries = ap (λ (p : Piled Entry). p.room) adds.entries;
     trail = ap (λ (p : Piled Change). p.room) adds.trail;
-  };
-  falls = rw adds.entries (omega (arith, rank_small result));
-}
+  }
+
+  pub lead_added : (result : Step) → AddsCell on old area → IsStep on (length area.cells.items) result →
+      ((left : ℕ) → carried (subject on) area (ran_of (subject on) area result left) ≡ answer left) →
+      Leads on 1 old answer area result
+  lead_added result adds step ends = record {
+    ends = ends;
+    sound = adds.sound;
+    step = step;
+    room = λ left has. (fits adds left has).0;
+    rooms = same_rooms adds;
+    falls = rw adds.entries (omega (arith, rank_small result));
+  }
+
+  -- and then an entry was made
+  pub lead_entered : (resume : Resume) (at : ℕ) (result : Step) → AddsCell on old area →
+      at ≤ length on.text.now → IsResume on.pattern.now (length area.cells.items) resume →
+      IsStep on (length area.cells.items) result →
+      ((left : ℕ) → carried (subject on) area (resumed (subject on) area.cells.items area.captures.items resume at
+      (ran_of (subject on) area result left)) ≡ answer left) →
+      Leads on 1 old answer (with_entry area (made area resume at)) result
+  lead_entered resume at result adds there is step ends = record {
+    ends = λ left.
+        carry-entry (subject on) area.cells.items area.trail.items area.captures.items (made area resume at)
+        area.entries.items (ran_of (subject on) (with_entry area (made area resume at)) result left) refl refl
+        ∙ ends left;
+    sound = sound_entered on area resume at adds.sound there is;
+    step = step;
+    room = λ left has. record {
+      cells = (fits adds left has).0.cells;
+      entries = omega (arith, (fits adds left has).1);
+      trail = (fits adds left has).0.trail;
+      small = (fits adds left has).0.small;
+    };
+    rooms = record {
+      captures = (same_rooms adds).captures;
+      cells = adds.room;
+      entries = (same_rooms adds).entries;
+      trail = (same_rooms adds).trail;
+    };
+    falls = rw adds.entries (omega (arith, rank_small result));
+  }
 
 -- going back over one change
 

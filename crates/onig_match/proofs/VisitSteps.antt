@@ -6,7 +6,7 @@ use Rattle.pattern_defs.specs.declared.nodes.ListId.{ListId}
 use Rattle.pattern_defs.specs.declared.nodes.PatNode.TheVariants.{Choice, Group, Ahead, Atomic}
 use Rattle.pattern_defs.specs.declared.outcomes.Place.{Place}
 use Rattle.pattern_defs.specs.Patterns.{NodeLists}
-use Rattle.pattern_defs.specs.Attempt.{Subject, Todo, Node, Close, Again, Ran, Hit, Miss, Spent, before, or_else}
+use Rattle.pattern_defs.specs.Attempt.{Todo, Node, Close, Again, Ran, Hit, Miss, Spent, before, or_else}
 use Rattle.pattern_defs.specs.Attempt.{repeats, is_greatest}
 use Rattle.onig_match.specs.declared.cells.Rest.{Rest}
 use Rattle.onig_match.specs.declared.cells.NodeAt.{NodeAt}
