@@ -1,7 +1,6 @@
 -- End texts: an `end` or `while` text in which what a begin captured stands for each back reference, as vscode-textmate
--- has it. That a reference takes all its digits, and which characters get a backslash, are this project's own. An end
--- text is UTF-8 bytes, and what is captured is put into it as such.
-use Rattle.std.specs.Prelude.{ℕ, zero, suc, ◌==◌, List, [], ◌∷◌, ◌++◌, length, codes, encode_utf8_all, flat_map, Bool}
+-- has it. That a reference takes all its digits, and which characters get a backslash, are this project's own.
+use Rattle.std.specs.Prelude.{ℕ, zero, suc, ◌==◌, List, [], ◌∷◌, ◌++◌, length, codes, flat_map, Bool}
 use Rattle.std.specs.Prelude.{◌||◌, if◌then◌else◌}
 use Rattle.std.specs.List.{list_any}
 use Rattle.pattern_defs.specs.Attempt.{Captures}
@@ -25,7 +24,7 @@ reference_at c cs = if c == 92 then digits_at cs else []
 abbrev pub by_reference : List ℕ → Captures → List ℕ → ℕ → (ℕ → List ℕ) → List ℕ
 by_reference text captures [] c next = c ∷ next 0
 by_reference text captures (d ∷ ds) c next =
-    encode_utf8_all (escaped (captured text captures (number_of (d ∷ ds)))) ++ next (length (d ∷ ds))
+    escaped (captured text captures (number_of (d ∷ ds))) ++ next (length (d ∷ ds))
 
 -- a pattern behind so many of its characters
 abbrev pub end_text_past : List ℕ → Captures → List ℕ → ℕ → List ℕ

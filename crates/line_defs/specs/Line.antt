@@ -50,7 +50,7 @@ at_front start = record {
 
 -- the run behind the while pass, unless an attempt was spent there
 abbrev pub after_pass : Turned → Machine → (text : List ℕ) → State
-after_pass (GoesOn state) machine text = run_from machine (inside_by machine MOST_LEVELS) text state
+after_pass (GoesOn state) machine text = run_from machine (run_over machine text).inside text state
 after_pass (Stops state) machine text = state
 
 abbrev pub line_run : Machine → (text : List ℕ) → State → State

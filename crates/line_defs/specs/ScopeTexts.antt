@@ -1,23 +1,21 @@
 -- Scope texts: the names that a text with the forms `$n`, `${n:/downcase}` and `${n:/upcase}` stands for. The forms are
 -- those of vscode-textmate; that `$n` takes all digits, that the case forms change ASCII letters only, and that a form
--- whose capture isn't there stays as it is written are this project's own. A scope text is UTF-8 bytes, and what is
--- captured is put into it as such.
-use Rattle.std.specs.Prelude.{ℕ, zero, suc, ◌+◌, ◌-◌, ◌*◌, ◌==◌, nat_le, nat_lt, nat_eq, List, [], ◌∷◌, ◌++◌, length}
-use Rattle.std.specs.Prelude.{map, drop, fold, take_while, slice_range, codes, encode_utf8_all, Bool, true, false}
-use Rattle.std.specs.Prelude.{◌&&◌, if◌then◌else◌, Option, Some, None}
-use Rattle.std.specs.Char.{to_ascii_lowercase, to_ascii_uppercase}
+-- whose capture isn't there stays as it is written are this project's own.
+use Rattle.std.specs.Prelude.{ℕ, zero, suc, ◌+◌, ◌-◌, ◌*◌, ◌==◌, nat_le, nat_eq, List, [], ◌∷◌, ◌++◌, length}
+use Rattle.std.specs.Prelude.{map, drop, fold, take_while, slice_range, codes, chars, encode_utf8_all, Bool, true, false}
+use Rattle.std.specs.Prelude.{if◌then◌else◌, Option, Some, None}
+use Rattle.std.specs.Char.{is_ascii_digit, to_ascii_lowercase, to_ascii_uppercase}
 use Rattle.std.specs.List.{starts_with}
 use Rattle.pattern_defs.specs.declared.outcomes.Place.{Place}
 use Rattle.pattern_defs.specs.Attempt.{Captures, capture_of}
 use Rattle.scope_defs.specs.Scopes.{Scopes, push}
+use Rattle.line_defs.specs.declared.forms.Case.{Case}
+use Rattle.line_defs.specs.declared.forms.Case.TheVariants.{AsIs, Lower, Upper}
 
 -- ---- numbers in a text
 
-abbrev pub is_digit : ℕ → Bool
-is_digit c = nat_le 48 c && nat_le c 57
-
 abbrev pub digits_at : List ℕ → List ℕ
-digits_at text = take_while is_digit text
+digits_at text = take_while is_ascii_digit text
 
 abbrev pub number_of : List ℕ → ℕ
 number_of digits = fold (λ n c. n * 10 + (c - 48)) 0 digits
@@ -37,11 +35,6 @@ without_dots [] = []
 without_dots (c ∷ cs) = if c == 46 then without_dots cs else c ∷ cs
 
 -- ---- forms
-
-pub data Case : Type 0 where
-  AsIs : Case
-  Lower : Case
-  Upper : Case
 
 -- a form: its capture, its case, and how many characters it has behind its `$`
 pub record Form : Type 0 where
@@ -89,14 +82,14 @@ form_at c cs = if c == 36 then form_behind cs else None
 
 -- what a form stands for: a captured text without the dots at its front
 abbrev pub form_text : (text : List ℕ) → Captures → Form → List ℕ
-form_text text captures form = encode_utf8_all (in_case form.case (without_dots (captured text captures form.number)))
+form_text text captures form = in_case form.case (without_dots (captured text captures form.number))
 
--- A form whose capture is no group of the pattern stays as it is written. The last argument goes on with the text,
+-- A form whose number is above the groups of the pattern stays as it is written. The last argument goes on with the text,
 -- past so many characters.
 abbrev pub by_form : List ℕ → Captures → Option Form → ℕ → (ℕ → List ℕ) → List ℕ
 by_form text captures None c next = c ∷ next 0
 by_form text captures (Some form) c next =
-    if nat_lt form.number (length captures) then form_text text captures form ++ next form.more else c ∷ next 0
+    if nat_le form.number (length captures - 1) then form_text text captures form ++ next form.more else c ∷ next 0
 
 -- a scope text behind so many of its characters, with captured texts for its forms
 abbrev pub filled_past : List ℕ → Captures → List ℕ → ℕ → List ℕ
@@ -109,7 +102,7 @@ filled text captures name = filled_past text captures name 0
 
 -- ---- pushing
 
--- scopes with the pieces of a scope text pushed, which may be missing
+-- scopes with the pieces of a scope text pushed, which may be missing; names are UTF-8 bytes
 abbrev pub pushed : (text : List ℕ) → Captures → Scopes → (name : Option (List ℕ)) → Scopes
 pushed text captures scopes None = scopes
-pushed text captures scopes (Some name) = push scopes (filled text captures name)
+pushed text captures scopes (Some name) = push scopes (encode_utf8_all (filled text captures (chars name)))

@@ -1,7 +1,7 @@
 -- A turn of a run: what the search finds, and what is done with it. As vscode-textmate has it; what a spent attempt
 -- does,
 -- and how many frames there may be, are this project's own.
-use Rattle.std.specs.Prelude.{ℕ, zero, suc, ◌+◌, ◌*◌, ◌==◌, nat_le, List, [], ◌∷◌, length, Bool, true, false, ◌&&◌}
+use Rattle.std.specs.Prelude.{ℕ, zero, suc, ◌+◌, ◌*◌, ◌==◌, nat_le, List, [], ◌∷◌, length, Bool, true, false, ◌&&◌, chars, encode_utf8_all}
 use Rattle.std.specs.Prelude.{◌||◌, Option, Some, None}
 use Rattle.scope_defs.specs.Scopes.{Scopes}
 use Rattle.scope_defs.specs.Frames.{Frame, on, depth}
@@ -117,9 +117,9 @@ abbrev pub begin_told : Run → Rule → Matched → (before : Scopes) → State
 begin_told run rule m before state = record state
     { out = told_match run state before state.stack.top.name m rule.start_captures }
 
--- the text of an end is kept where captures change it
+-- the text of an end is kept where captures change it, as UTF-8 bytes
 abbrev pub kept_end : Run → Matched → Slot → Option (List ℕ)
-kept_end run m (Later text groups) = Some (end_text run.text m.captures text)
+kept_end run m (Later text groups) = Some (encode_utf8_all (end_text run.text m.captures (chars text)))
 kept_end run m _ = None
 
 -- the frame as it stays: with the scopes of its content, and the text of its end

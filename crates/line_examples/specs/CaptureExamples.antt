@@ -155,3 +155,20 @@ pub runs_over_captures_go_sixteen_deep : told captures_in_captures ("ab" ∷ [])
     ∷ token 1 2 "s" ∷ []) (0 ∷ []) ∷ []
 unfolding told
 runs_over_captures_go_sixteen_deep = refl
+
+abbrev empty_captures : Machine
+empty_captures = grammar
+    (group (1 ∷ [])
+    ∷ with_captures (capture 1 "x" ∷ capture 2 "y" ∷ capture 3 "z" ∷ []) (single "m" "()a(?=bc())(b)") ∷ [])
+
+pub empty_captures_are_skipped_also_behind_the_match : told empty_captures ("abc" ∷ [])
+    ≡ line (token 0 1 "s m" ∷ token 1 2 "s m z" ∷ token 2 3 "s" ∷ []) (0 ∷ []) ∷ []
+unfolding told
+empty_captures_are_skipped_also_behind_the_match = refl
+
+abbrev an_empty_capture_inside : Machine
+an_empty_capture_inside = grammar (group (1 ∷ []) ∷ with_captures (capture 1 "x" ∷ []) (single "m" "a()b") ∷ [])
+
+pub an_empty_capture_parts_no_token : told an_empty_capture_inside ("ab" ∷ []) ≡ line (token 0 2 "s m" ∷ []) (0 ∷ []) ∷ []
+unfolding told
+an_empty_capture_parts_no_token = refl

@@ -50,6 +50,16 @@ pub a_long_line_is_one_token_and_keeps_the_frames : told long_lines ("<a" ∷ "a
 unfolding told
 a_long_line_is_one_token_and_keeps_the_frames = refl
 
+abbrev short_lines : Machine
+short_lines = with_long 3 (grammar (group (1 ∷ []) ∷ with_content "c" (block "b" "<" ">" []) ∷ []))
+
+pub a_line_of_exactly_so_many_characters_is_long : told short_lines ("<a" ∷ "a>b" ∷ "a>" ∷ [])
+    ≡ line (token 0 1 "s b" ∷ token 1 2 "s b c" ∷ []) (1 ∷ 0 ∷ [])
+    ∷ line (token 0 3 "s b c" ∷ []) (1 ∷ 0 ∷ [])
+    ∷ line (token 0 1 "s b c" ∷ token 1 2 "s b" ∷ []) (0 ∷ []) ∷ []
+unfolding told
+a_line_of_exactly_so_many_characters_is_long = refl
+
 -- ---- without a grammar
 
 pub without_a_grammar_a_line_is_one_token_without_scopes : told_from (start_of []) (no_grammar 1000 20_000)
@@ -111,3 +121,14 @@ pub a_begin_on_1000_frames_that_takes_nothing_leaves_the_rest : told_from (open_
     ≡ line (token 0 1 "s p z" ∷ token 1 3 "s p" ∷ []) (replicate 999 1 ++ 0 ∷ []) ∷ []
 unfolding told_from
 a_begin_on_1000_frames_that_takes_nothing_leaves_the_rest = refl
+
+abbrev anchored : Machine
+anchored = grammar (group (1 ∷ []) ∷ block "p" "\\(" "\\)" (1 ∷ 2 ∷ []) ∷ single "g" "\\Gx" ∷ [])
+
+pub a_begin_that_pushes_nothing_leaves_the_anchor :
+    (told_from (open_blocks 998) anchored ("(x" ∷ [])
+    ≡ line (token 0 1 "s p p" ∷ token 1 2 "s p" ∷ []) (replicate 999 1 ++ 0 ∷ []) ∷ [])
+    × (told_from (open_blocks 997) anchored ("(x" ∷ [])
+    ≡ line (token 0 1 "s p p" ∷ token 1 2 "s p p g" ∷ []) (replicate 999 1 ++ 0 ∷ []) ∷ [])
+unfolding told_from
+a_begin_that_pushes_nothing_leaves_the_anchor = (refl, refl)

@@ -1,6 +1,7 @@
 -- Small grammars, and what their lines give, written short: patterns and scopes as texts.
 use Prim.Native.String.{String}
 use lib.Utf8.{encode}
+use Rattle.std.specs.Str.{chars}
 use Rattle.char_sets.specs.Named.{is_word}
 use Rattle.line_defs.specs.Turns.{turns}
 use Rattle.pattern_defs.specs.Attempt.{go_on}
@@ -32,7 +33,7 @@ use Rattle.scope_defs.specs.Frames.{Start, Token, frames}
 use Rattle.scope_defs.specs.Selectors.{path_holds}
 use Rattle.rule_defs.specs.Rules.{Match, BeginEnd, BeginWhile, Slot, Never, Read, Later, Entry, Rule, Injection}
 use Rattle.rule_defs.specs.Rules.{no_rule}
-use Rattle.line_defs.specs.ScopeTexts.{is_digit}
+use Rattle.std.specs.Char.{is_ascii_digit}
 use Rattle.line_defs.specs.Machine.{Machine}
 use Rattle.line_defs.specs.Frames.{start_of}
 use Rattle.line_defs.specs.Line.{LineResult, lines_tokenised}
@@ -85,7 +86,7 @@ pattern text = read (reader (codes text))
 abbrev pub has_reference : List ℕ → Bool
 has_reference [] = false
 has_reference (c ∷ []) = false
-has_reference (c ∷ d ∷ cs) = if c == 92 then is_digit d || has_reference (d ∷ cs) else has_reference (d ∷ cs)
+has_reference (c ∷ d ∷ cs) = if c == 92 then is_ascii_digit d || has_reference (d ∷ cs) else has_reference (d ∷ cs)
 
 -- a text of `end` or `while`: one with back references has at most as many groups as `(` and backslashes
 abbrev pub finish : String → Slot
@@ -213,7 +214,7 @@ shown result = record {
 
 -- lines from a start
 unfoldable pub told_from : Start → Machine → List String → List Told
-unfolding encode body_at steps behind_backslash escape_by hex_at byte_at unicode_at braced_at property_at
+unfolding encode chars body_at steps behind_backslash escape_by hex_at byte_at unicode_at braced_at property_at
     property_by by_plain_name named_bracket class_within members_at part_at member_at item_at range_char_at
     range_end behind_class_backslash behind_bracket bracket_at behind_colon go_on is_word general_category value_in
     in_ranges general_category_rows is_white_space white_space_ranges turns
