@@ -2,6 +2,7 @@
 use Rattle.std.specs.Prelude.{◌≡◌, ℕ, ◌+◌, ◌*◌, ◌<◌, ◌≤◌, ◌^◌, ◌==◌, if◌then◌else◌, List, [], ◌∷◌, ◌++◌, Option, Some, None}
 use Rattle.text_pos.specs.declared.length.Length.{Length}
 use Rattle.text_pos.specs.Lengths.{plus}
+use Rattle.tree_defs.specs.Items.{Items, items_then}
 use Rattle.tree_defs.specs.Tree.{Tree, Nothing, Text, Bracket, Lone, Pair, Two, Three}
 
 abbrev pub no_length : Length
@@ -75,6 +76,16 @@ Fits len = (len.lines < 2 ^ 32) × (len.cols < 2 ^ 32)
 -- each run of neighbours has a length of which both parts are below 2 ^ 32
 abbrev pub RunsFit : List Tree → Type 0
 RunsFit ts = (before run rest : List Tree) → ts ≡ before ++ (run ++ rest) → Fits (total run)
+
+-- each tree of some that stand one behind the other from a place on ends at a place of which both parts are below 2 ^ 32
+abbrev pub EndsFit : Length → List Tree → Type 0
+EndsFit at [] = Unit {0}
+EndsFit at (t ∷ ts) = Fits (plus at (length_of t)) × EndsFit (plus at (length_of t)) ts
+
+-- the items of trees one behind the other, and then others
+abbrev pub all_items : List Tree → Items → Items
+all_items [] rest = rest
+all_items (t ∷ ts) rest = items_then t (all_items ts rest)
 
 abbrev pub IsSome : Length → Type 0
 IsSome len = 0 < len.lines + len.cols
