@@ -15,13 +15,16 @@ is_inside : (inside : Option Tree) → SoundInside inside → IsInside inside
 is_inside None sound = tt
 is_inside (Some t) sound = sound.node
 
-pub pair_keeps : (opener : Tree) (inside closer : Option Tree) (extent : Length) (deep : ℕ) (cut : Bool) (missing : Kinds)
+pub pair_keeps : (opener : Tree) (inside closer : Option Tree) (extent : Length) (deep : ℕ) (cut : Bool)
+    (missing : Kinds)
     → ArePair opener inside closer → Sound opener → SoundInside inside → Fits (length_of (pair_of opener inside closer))
     → extent ≡ and_closer (plus (length_of opener) (length_of (or_nothing inside))) (closer_length closer)
     → deep ≡ depth (or_nothing inside) + 1 → cut ≡ is_cut (or_nothing inside)
     → ((k : ℕ) → has_kind missing k ≡ misses (or_nothing inside) k)
-    → Keeps (record { extent = extent; height = 0; depth = deep; cut = cut; missing = missing; parts = parts.Pair opener inside closer })
-pair_keeps (Bracket len kind) inside closer extent deep cut missing are so si fits is_extent is_deep is_cut are_missing = record {
+    → Keeps (record { extent = extent; height = 0; depth = deep; cut = cut; missing = missing; parts =
+      parts.Pair opener inside closer })
+pair_keeps (Bracket len kind) inside closer extent deep cut missing are so si fits is_extent is_deep is_cut
+    are_missing = record {
   made = (is_inside inside si, are);
   extent = is_extent;
   height = refl;

@@ -1,5 +1,6 @@
 -- What holds of a node's tree holds of a tree that is made of such nodes.
-use Rattle.std.proofs.Common.{◌≡◌, ℕ, ◌+◌, ◌*◌, ◌<◌, ◌≤◌, ◌^◌, ◌==◌, if◌then◌else◌, Bool, true, false, Option, Some, None, refl, arith, sym, ◌∙◌, subst, ap, inl, inr}
+use Rattle.std.proofs.Common.{◌≡◌, ℕ, ◌+◌, ◌*◌, ◌<◌, ◌≤◌, ◌^◌, ◌==◌, if◌then◌else◌, Bool, true, false, Option, Some}
+use Rattle.std.proofs.Common.{None, refl, arith, sym, ◌∙◌, subst, ap, inl, inr}
 use Rattle.std.proofs.lemmas.Bool.Decides.{nat_tests}
 use Rattle.std.proofs.lemmas.Grind.{pow_more}
 use Rattle.std.proofs.lemmas.Bool.{cases_order}
@@ -35,18 +36,22 @@ pub two_sound : (a b : Tree) → Sound a → Sound b → height a ≡ height b �
 two_sound a b sa sb same fits = record {
   node = tt;
   even = (sa.node, sb.node, same, sa.even, sb.even);
-  tall = let high : 2 ^ height a ≤ room_in (length_of b) = subst (λ h. 2 ^ h ≤ room_in (length_of b)) (sym same) sb.tall in
+  tall = let high : 2 ^ height a ≤ room_in (length_of b) =
+      subst (λ h. 2 ^ h ≤ room_in (length_of b)) (sym same) sb.tall in
       let whole = twice (2 ^ height a) (length_of a) (length_of b) sa.tall high sa.fits sb.fits in
       subst (λ p. p ≤ room_in (plus (length_of a) (length_of b))) (sym (doubled (height a))) whole;
   fits = fits;
 }
 
-pub three_sound : (a b c : Tree) → Sound a → Sound b → Sound c → height a ≡ height b → height a ≡ height c → Fits (plus (length_of a) (length_of b)) → Fits (length_of (Three a b c)) → Sound (Three a b c)
+pub three_sound : (a b c : Tree) → Sound a → Sound b → Sound c → height a ≡ height b → height a ≡ height c
+    → Fits (plus (length_of a) (length_of b)) → Fits (length_of (Three a b c)) → Sound (Three a b c)
 three_sound a b c sa sb sc same_b same_c front fits = record {
   node = tt;
   even = (sa.node, sb.node, sc.node, same_b, same_c, sa.even, sb.even, sc.even);
-  tall = let high : 2 ^ height a ≤ room_in (length_of c) = subst (λ h. 2 ^ h ≤ room_in (length_of c)) (sym same_c) sc.tall in
-      let near : 2 ^ height a ≤ room_in (plus (length_of a) (length_of b)) = more_room (2 ^ height a) (length_of a) (length_of b) sa.tall sa.fits in
+  tall = let high : 2 ^ height a ≤ room_in (length_of c) =
+      subst (λ h. 2 ^ h ≤ room_in (length_of c)) (sym same_c) sc.tall in
+      let near : 2 ^ height a ≤ room_in (plus (length_of a) (length_of b)) =
+          more_room (2 ^ height a) (length_of a) (length_of b) sa.tall sa.fits in
       let whole = twice (2 ^ height a) (plus (length_of a) (length_of b)) (length_of c) near high front sc.fits in
       subst (λ p. p ≤ room_in (plus (plus (length_of a) (length_of b)) (length_of c))) (sym (doubled (height a))) whole;
   fits = fits;
@@ -61,12 +66,14 @@ some_closer : (a : Length) (closer : Option Length) → IsSome a → IsSome (and
 some_closer a None some = some
 some_closer a (Some b) some = some_plus a b some
 
-pub pair_sound : (opener : Tree) (inside closer : Option Tree) → ArePair opener inside closer → Sound opener → SoundInside inside → Fits (length_of (pair_of opener inside closer))
+pub pair_sound : (opener : Tree) (inside closer : Option Tree) → ArePair opener inside closer → Sound opener
+    → SoundInside inside → Fits (length_of (pair_of opener inside closer))
     → Sound (pair_of opener inside closer)
 pair_sound (Bracket len kind) inside closer are so si fits = record {
   node = tt;
   even = even_inside inside si;
-  tall = some_room _ (some_closer (plus len (length_of (or_nothing inside))) (closer_length closer) (some_plus len (length_of (or_nothing inside)) (room_some len so.tall)));
+  tall = some_room _ (some_closer (plus len (length_of (or_nothing inside))) (closer_length closer)
+      (some_plus len (length_of (or_nothing inside)) (room_some len so.tall)));
   fits = fits;
 }
 pair_sound _ inside closer are so si fits = absurd are
@@ -80,7 +87,8 @@ low t s = elim (cases_order (height t) 64) [
   | inl same ↦ omega arith
   | inr other ↦ elim other [
     | inl less ↦ omega arith
-    | inr more ↦ let far : 2 ^ 65 ≤ 2 ^ height t = pow-le-pow_right {n = 2} (omega arith) {i = 65} {j = height t} (omega arith) in
+    | inr more ↦ let far : 2 ^ 65 ≤ 2 ^ height t =
+        pow-le-pow_right {n = 2} (omega arith) {i = 65} {j = height t} (omega arith) in
         let room = high_room (length_of t) s.fits in let tall = s.tall in absurd (omega arith)
   ]
 ]

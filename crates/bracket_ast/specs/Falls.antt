@@ -32,7 +32,8 @@ three_fall (a ∷ b ∷ []) is = omega arith
 three_fall (a ∷ b ∷ c ∷ []) is = omega arith
 three_fall _ is = absurd is
 
-pub parts_fall : (len : Length) (cut : Bool) (missing : Kinds) (p : Parts) → IsMade p → deep-Parts p ≤ weight (made len cut missing p)
+pub parts_fall : (len : Length) (cut : Bool) (missing : Kinds) (p : Parts) → IsMade p
+    → deep-Parts p ≤ weight (made len cut missing p)
 parts_fall len cut missing parts.Text is = omega arith
 parts_fall len cut missing (parts.Bracket kind) is = omega arith
 parts_fall len cut missing parts.Unexpected is = omega arith

@@ -1,5 +1,6 @@
 -- A list and its children, and nodes of one height.
-use Rattle.std.proofs.Common.{◌≡◌, ℕ, zero, suc, ◌+◌, ◌<◌, ◌≤◌, List, [], ◌∷◌, ◌++◌, length, take, get_or, refl, sym, ap, ◌∙◌, subst, arith, append_assoc}
+use Rattle.std.proofs.Common.{◌≡◌, ℕ, zero, suc, ◌+◌, ◌<◌, ◌≤◌, List, [], ◌∷◌, ◌++◌, length, take, get_or, refl, sym}
+use Rattle.std.proofs.Common.{ap, ◌∙◌, subst, arith, append_assoc}
 use Rattle.tree_defs.specs.Tree.{Tree, Nothing, Text, Bracket, Lone, Pair, Two, Three}
 use Rattle.tree_defs.specs.Shape.{height, leaves_of, all_leaves, IsEven}
 use Rattle.bracket_ast.specs.Shapes.{Sound}
@@ -31,12 +32,14 @@ pub high_append : (h : ℕ) (ts : List Tree) (t : Tree) → AllHigh h ts → hei
 high_append h [] t all is = (is, tt)
 high_append h (x ∷ ts) t all is = (all.0, high_append h ts t all.1 is)
 
-pub high_more : (h n : ℕ) (ts : List Tree) (d : Tree) → n < length ts → AllHigh h (take n ts) → height (get_or ts n d) ≡ h → AllHigh h (take (suc n) ts)
+pub high_more : (h n : ℕ) (ts : List Tree) (d : Tree) → n < length ts → AllHigh h (take n ts) → height (get_or ts n d)
+    ≡ h → AllHigh h (take (suc n) ts)
 high_more h n [] d less all here = absurd (omega arith)
 high_more h zero (t ∷ ts) d less all here = (here, tt)
 high_more h (suc n) (t ∷ ts) d less all here = (all.0, high_more h n ts d (omega arith) all.1 here)
 
-pub high_front : (n : ℕ) (ts : List Tree) → 0 < n → AllHigh (first_height ts) (take n ts) → AllHigh (first_height (take n ts)) (take n ts)
+pub high_front : (n : ℕ) (ts : List Tree) → 0 < n → AllHigh (first_height ts) (take n ts)
+    → AllHigh (first_height (take n ts)) (take n ts)
 high_front zero ts some all = absurd (omega arith)
 high_front (suc n) [] some all = tt
 high_front (suc n) (t ∷ ts) some all = all
@@ -47,4 +50,5 @@ first_of h (t ∷ ts) some all = subst (λ x. AllHigh x (t ∷ ts)) (sym all.0) 
 
 pub leaves_append : (xs ys : List Tree) → all_leaves (xs ++ ys) ≡ all_leaves xs ++ all_leaves ys
 leaves_append [] ys = refl
-leaves_append (x ∷ xs) ys = ap (λ l. leaves_of x ++ l) (leaves_append xs ys) ∙ sym (append_assoc (leaves_of x) (all_leaves xs) (all_leaves ys))
+leaves_append (x ∷ xs) ys = ap (λ l. leaves_of x ++ l) (leaves_append xs ys)
+    ∙ sym (append_assoc (leaves_of x) (all_leaves xs) (all_leaves ys))

@@ -1,5 +1,6 @@
 -- The reuse law.
-use Rattle.std.proofs.Common.{◌≡◌, ℕ, ◌+◌, ◌≤◌, max, List, [], ◌∷◌, ◌++◌, length, map, Bool, true, false, IsTrue, refl, sym, ap, ◌∙◌, subst, arith}
+use Rattle.std.proofs.Common.{◌≡◌, ℕ, ◌+◌, ◌≤◌, max, List, [], ◌∷◌, ◌++◌, length, map, Bool, true, false, IsTrue}
+use Rattle.std.proofs.Common.{refl, sym, ap, ◌∙◌, subst, arith}
 use Rattle.text_pos.specs.declared.length.Length.{Length}
 use Rattle.text_pos.specs.declared.kinds.Kinds.{Kinds}
 use Rattle.pairing_defs.specs.declared.Mark.{Mark}
@@ -17,9 +18,12 @@ reuse_law limit level above t at ms s stands among can =
     let p : Passes above (length s.entries) limit t = passes_of above (length s.entries) limit t can in
     let flat : depth_of (items_of t) ≤ max (depth t) 0 = depth_then t end in
     let shallow = p.shallow in
-    let here : Stands limit (length s.entries) (items_of t) at ms = relevels limit (items_of t) level (length s.entries) at ms (cut_then t end p.uncut refl) (omega arith) stands in
-    let w : Walked limit (items_of t) at ms s = walks limit (items_of t) at ms s here (clear_of above t s.entries p.apart among) in
-    let bare : Stands limit 0 (items_of t) at ms = relevels limit (items_of t) level 0 at ms (cut_then t end p.uncut refl) (omega arith) stands in
+    let here : Stands limit (length s.entries) (items_of t) at ms =
+        relevels limit (items_of t) level (length s.entries) at ms (cut_then t end p.uncut refl) (omega arith) stands in
+    let w : Walked limit (items_of t) at ms s =
+        walks limit (items_of t) at ms s here (clear_of above t s.entries p.apart among) in
+    let bare : Stands limit 0 (items_of t) at ms =
+        relevels limit (items_of t) level 0 at ms (cut_then t end p.uncut refl) (omega arith) stands in
     let own : Walked limit (items_of t) at ms nothing_open = walks limit (items_of t) at ms nothing_open bare tt in
     record {
       alone = own.placed;

@@ -1,5 +1,6 @@
 -- Lengths and heights of a tree, its lists opened, and when a list is even.
-use Rattle.std.specs.Prelude.{◌≡◌, ℕ, ◌+◌, ◌*◌, ◌<◌, ◌≤◌, ◌^◌, ◌==◌, if◌then◌else◌, List, [], ◌∷◌, ◌++◌, Option, Some, None}
+use Rattle.std.specs.Prelude.{◌≡◌, ℕ, ◌+◌, ◌*◌, ◌<◌, ◌≤◌, ◌^◌, ◌==◌, if◌then◌else◌, List, [], ◌∷◌, ◌++◌, Option, Some}
+use Rattle.std.specs.Prelude.{None}
 use Rattle.text_pos.specs.declared.length.Length.{Length}
 use Rattle.text_pos.specs.Lengths.{plus}
 use Rattle.tree_defs.specs.Items.{Items, items_then}
@@ -48,7 +49,8 @@ IsEven (Bracket len kind) = Unit {0}
 IsEven (Lone len kinds) = Unit {0}
 IsEven (Pair opener kind inside closer) = IsEven inside
 IsEven (Two a b) = IsNode a × IsNode b × (height a ≡ height b) × IsEven a × IsEven b
-IsEven (Three a b c) = IsNode a × IsNode b × IsNode c × (height a ≡ height b) × (height a ≡ height c) × IsEven a × IsEven b × IsEven c
+IsEven (Three a b c) = IsNode a × IsNode b × IsNode c × (height a ≡ height b) × (height a ≡ height c) × IsEven a
+    × IsEven b × IsEven c
 
 -- the nodes of a tree with its lists opened, in order
 abbrev pub leaves_of : Tree → List Tree
@@ -77,7 +79,8 @@ Fits len = (len.lines < 2 ^ 32) × (len.cols < 2 ^ 32)
 abbrev pub RunsFit : List Tree → Type 0
 RunsFit ts = (before run rest : List Tree) → ts ≡ before ++ (run ++ rest) → Fits (total run)
 
--- each tree of some that stand one behind the other from a place on ends at a place of which both parts are below 2 ^ 32
+-- each tree of some that stand one behind the other from a place on ends at a place of which both parts are below 2 ^
+-- 32
 abbrev pub EndsFit : Length → List Tree → Type 0
 EndsFit at [] = Unit {0}
 EndsFit at (t ∷ ts) = Fits (plus at (length_of t)) × EndsFit (plus at (length_of t)) ts

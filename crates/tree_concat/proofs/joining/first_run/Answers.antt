@@ -1,4 +1,5 @@
-use Rattle.std.proofs.Common.{◌≡◌, ℕ, ◌+◌, ◌*◌, ◌<◌, ◌≤◌, List, [], ◌∷◌, ◌++◌, length, Option, Some, None, refl, sym, ap, ◌∙◌, subst, arith, append_assoc, append-nil, length-append}
+use Rattle.std.proofs.Common.{◌≡◌, ℕ, ◌+◌, ◌*◌, ◌<◌, ◌≤◌, List, [], ◌∷◌, ◌++◌, length, Option, Some, None, refl, sym}
+use Rattle.std.proofs.Common.{ap, ◌∙◌, subst, arith, append_assoc, append-nil, length-append}
 use Rattle.tree_defs.specs.Tree.{Tree}
 use Rattle.tree_defs.specs.Shape.{height, leaves_of, all_leaves, RunsFit}
 use Rattle.tree_concat.specs.Joined.{some_leaves, AllHigh, first_height}
@@ -18,9 +19,11 @@ loop-n-preserved c = record {
   high =
       let some : 0 < length c.args.nodes.now = omega arith in
       let here : height (get_or c.args.nodes.now c.loop-n.n c.index-nodes-n.result) ≡ first_height c.args.nodes.now =
-          ap height (sym c.index-nodes-n.is) ∙ sym c.height.ensures.value ∙ c.if-height.true ∙ c.height-in-loop-n.ensures.value
+          ap height (sym c.index-nodes-n.is) ∙ sym c.height.ensures.value ∙ c.if-height.true
+              ∙ c.height-in-loop-n.ensures.value
           ∙ ap height c.index-nodes-0.is ∙ first_is c.args.nodes.now c.index-nodes-0.result some in
-      rw add-one (high_more (first_height c.args.nodes.now) c.loop-n.n c.args.nodes.now c.index-nodes-n.result (omega arith) c.loop-n.invariant.high here);
+      rw add-one (high_more (first_height c.args.nodes.now) c.loop-n.n c.args.nodes.now c.index-nodes-n.result
+          (omega arith) c.loop-n.invariant.high here);
 }
 
 pub returns-clause-high : goal.returns-clause-high
