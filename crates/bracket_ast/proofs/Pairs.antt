@@ -21,16 +21,23 @@ pub pair_keeps : (opener : Tree) (inside closer : Option Tree) (extent : Length)
     → extent ≡ and_closer (plus (length_of opener) (length_of (or_nothing inside))) (closer_length closer)
     → deep ≡ depth (or_nothing inside) + 1 → cut ≡ is_cut (or_nothing inside)
     → ((k : ℕ) → has_kind missing k ≡ misses (or_nothing inside) k)
-    → Keeps (record { extent = extent; height = 0; depth = deep; cut = cut; missing = missing; parts =
-      parts.Pair opener inside closer })
+    → Keeps (record {
+      extent = extent;
+      height = 0;
+      depth = deep;
+      cut = cut;
+      missing = missing;
+      parts =
+          parts.Pair opener inside closer;
+    })
 pair_keeps (Bracket len kind) inside closer extent deep cut missing are so si fits is_extent is_deep is_cut
     are_missing = record {
-  made = (is_inside inside si, are);
-  extent = is_extent;
-  height = refl;
-  depth = is_deep;
-  cut = is_cut;
-  missing = are_missing;
-  sound = pair_sound (Bracket len kind) inside closer are so si fits;
-}
+      made = (is_inside inside si, are);
+      extent = is_extent;
+      height = refl;
+      depth = is_deep;
+      cut = is_cut;
+      missing = are_missing;
+      sound = pair_sound (Bracket len kind) inside closer are so si fits;
+    }
 pair_keeps _ inside closer extent deep cut missing are so si fits is_extent is_deep is_cut are_missing = absurd are

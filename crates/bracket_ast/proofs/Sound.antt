@@ -51,7 +51,7 @@ three_sound a b c sa sb sc same_b same_c front fits = record {
   tall = let high : 2 ^ height a ≤ room_in (length_of c) =
       subst (λ h. 2 ^ h ≤ room_in (length_of c)) (sym same_c) sc.tall in
       let near : 2 ^ height a ≤ room_in (plus (length_of a) (length_of b)) =
-          more_room (2 ^ height a) (length_of a) (length_of b) sa.tall sa.fits in
+      more_room (2 ^ height a) (length_of a) (length_of b) sa.tall sa.fits in
       let whole = twice (2 ^ height a) (plus (length_of a) (length_of b)) (length_of c) near high front sc.fits in
       subst (λ p. p ≤ room_in (plus (plus (length_of a) (length_of b)) (length_of c))) (sym (doubled (height a))) whole;
   fits = fits;

@@ -199,8 +199,10 @@ impl Node {
         match &self.shared.parts {
             Parts::Bracket(_) => false,
             Parts::Pair(_, _, None) => false,
-            Parts::Two(both) => self.passes(above, level, limit) && both[1].can_be_reused(above, level, limit),
-            Parts::Three(all) => self.passes(above, level, limit) && all[2].can_be_reused(above, level, limit),
+            Parts::Two(both) => self.passes(above, level, limit)
+                && both[1].can_be_reused(above, level, limit),
+            Parts::Three(all) => self.passes(above, level, limit)
+                && all[2].can_be_reused(above, level, limit),
             _ => self.passes(above, level, limit),
         }
     }
@@ -229,7 +231,17 @@ impl Node {
         requires { IsSome extent }
         ensures { IfOk result (λ t. t ≡ Text extent cut) }
     {
-        share(alloc, Inner { extent, height: 0, depth: 0, cut, missing: Kinds::empty(), parts: Parts::Text })
+        share(
+            alloc,
+            Inner {
+                extent,
+                height: 0,
+                depth: 0,
+                cut,
+                missing: Kinds::empty(),
+                parts: Parts::Text,
+            },
+        )
     }
 
     /// An opener or a closer of a pair.
@@ -238,7 +250,17 @@ impl Node {
         ensures { IfOk result (λ t. t ≡ Bracket extent kind) }
     {
         let parts = Parts::Bracket(kind);
-        share(alloc, Inner { extent, height: 0, depth: 0, cut: false, missing: Kinds::empty(), parts })
+        share(
+            alloc,
+            Inner {
+                extent,
+                height: 0,
+                depth: 0,
+                cut: false,
+                missing: Kinds::empty(),
+                parts,
+            },
+        )
     }
 
     /// A closer of nothing open, with all kinds that it closes.
@@ -246,11 +268,26 @@ impl Node {
         requires { IsSome extent }
         ensures { IfOk result (λ t. t ≡ Lone extent closes) }
     {
-        share(alloc, Inner { extent, height: 0, depth: 0, cut: false, missing: closes, parts: Parts::Unexpected })
+        share(
+            alloc,
+            Inner {
+                extent,
+                height: 0,
+                depth: 0,
+                cut: false,
+                missing: closes,
+                parts: Parts::Unexpected,
+            },
+        )
     }
 
     /// A pair. Its opener and its closer are brackets of one kind.
-    pub fn pair(alloc: Global, opener: &Node, inside: Option<&Node>, closer: Option<&Node>) -> Result<Node, AllocError>
+    pub fn pair(
+        alloc: Global,
+        opener: &Node,
+        inside: Option<&Node>,
+        closer: Option<&Node>,
+    ) -> Result<Node, AllocError>
         requires brackets { ArePair opener.now (nows inside) (nows closer) }
         requires front { Fits (plus (length_of opener.now) (length_of (or_nothing (nows inside)))) }
         requires whole { Fits (length_of (pair_of opener.now (nows inside) (nows closer))) }
@@ -264,7 +301,17 @@ impl Node {
         let opener = opener.copy()?;
         let inside = copy_or_none(inside)?;
         let closer = copy_or_none(closer)?;
-        share(alloc, Inner { extent, height: 0, depth, cut, missing, parts: Parts::Pair(opener, inside, closer) })
+        share(
+            alloc,
+            Inner {
+                extent,
+                height: 0,
+                depth,
+                cut,
+                missing,
+                parts: Parts::Pair(opener, inside, closer),
+            },
+        )
     }
 
     #[tactic(auto, using(crate::proofs::Sound::two_sound))]
@@ -280,7 +327,17 @@ impl Node {
         let missing = a.missing().with(b.missing());
         let a = a.copy()?;
         let b = b.copy()?;
-        share(alloc, Inner { extent, height, depth, cut, missing, parts: Parts::Two([a, b]) })
+        share(
+            alloc,
+            Inner {
+                extent,
+                height,
+                depth,
+                cut,
+                missing,
+                parts: Parts::Two([a, b]),
+            },
+        )
     }
 
     #[tactic(auto, using(crate::proofs::Sound::three_sound))]
@@ -299,11 +356,26 @@ impl Node {
         let a = a.copy()?;
         let b = b.copy()?;
         let c = c.copy()?;
-        share(alloc, Inner { extent, height, depth, cut, missing, parts: Parts::Three([a, b, c]) })
+        share(
+            alloc,
+            Inner {
+                extent,
+                height,
+                depth,
+                cut,
+                missing,
+                parts: Parts::Three([a, b, c]),
+            },
+        )
     }
 
     /// A list of two or three nodes of one height.
-    pub fn list(alloc: Global, first: &Node, second: &Node, third: Option<&Node>) -> Result<Node, AllocError>
+    pub fn list(
+        alloc: Global,
+        first: &Node,
+        second: &Node,
+        third: Option<&Node>,
+    ) -> Result<Node, AllocError>
         requires second_height { height first.now ≡ height second.now }
         requires third_height { IsAsHigh first.now (nows third) }
         requires front { Fits (plus (length_of first.now) (length_of second.now)) }

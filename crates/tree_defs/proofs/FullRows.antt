@@ -64,28 +64,59 @@ full_row : (last : Pos) (n : ℕ) (p : Placed) (r : TreeRow) (role : Role) (seen
     → p.mark.role ≡ role → r.seen ≡ seen → SeenAs role seen → IsRead p r
     → IsFull (row_of last n p role removal) (finish_row last n r seen removal)
 full_row last n p r (Opener kind) (opens other) removal is too as_seen read =
-    record { line = read.line; col = read.col; to = read.to; seen = read.seen; level = read.level; own =
-        read.own; colour = rw (read.level) refl; partner = refl; inner = refl }
+    record {
+      line = read.line;
+      col = read.col;
+      to = read.to;
+      seen = read.seen;
+      level = read.level;
+      own =
+          read.own;
+      colour = rw (read.level) refl;
+      partner = refl;
+      inner = refl;
+    }
 full_row last n p r (Opener kind) (alone kinds) removal is too as_seen read = absurd as_seen
 full_row last n p r (Opener kind) (closes_kind other) removal is too as_seen read = absurd as_seen
 full_row last n p r (Closer kinds) (opens kind) removal is too as_seen read = absurd as_seen
 full_row last n p r (Closer kinds) (alone others) removal is too as_seen read =
-    record { line = read.line; col = read.col; to = read.to; seen = read.seen; level = read.level; own =
-        read.own; colour = rw (read.level, read.closes) refl; partner = read.closes; inner = same_place p r read }
+    record {
+      line = read.line;
+      col = read.col;
+      to = read.to;
+      seen = read.seen;
+      level = read.level;
+      own =
+          read.own;
+      colour = rw (read.level, read.closes) refl;
+      partner = read.closes;
+      inner = same_place p r read;
+    }
 full_row last n p r (Closer kinds) (closes_kind kind) removal is too as_seen read =
-    record { line = read.line; col = read.col; to = read.to; seen = read.seen; level = read.level; own =
-        read.own; colour = rw (read.level, read.closes) refl; partner = read.closes; inner = same_place p r read }
+    record {
+      line = read.line;
+      col = read.col;
+      to = read.to;
+      seen = read.seen;
+      level = read.level;
+      own =
+          read.own;
+      colour = rw (read.level, read.closes) refl;
+      partner = read.closes;
+      inner = same_place p r read;
+    }
 
 finish_read : (last : Pos) (n : ℕ) (ps : List Placed) (rs : List TreeRow) → AreRead ps rs
     → AreFull (rows_from last n ps) (finish last n rs)
 finish_read last n [] [] are = tt
 finish_read last n [] (r ∷ rs) are = absurd are
 finish_read last n (p ∷ ps) [] are = absurd are
-finish_read last n (p ∷ ps) (r ∷ rs) are =
-    (subst (λ x. IsFull (row_of last n p p.mark.role (removal_of n (n + 1) ps)) (finish_row last n r r.seen x))
-        (removal_read n (n + 1) ps rs are.1)
-        (full_row last n p r p.mark.role r.seen (removal_of n (n + 1) ps) refl refl are.0.seen are.0),
-    finish_read last (n + 1) ps rs are.1)
+finish_read last n (p ∷ ps) (r ∷ rs) are = (
+  subst (λ x. IsFull (row_of last n p p.mark.role (removal_of n (n + 1) ps)) (finish_row last n r r.seen x))
+      (removal_read n (n + 1) ps rs are.1)
+      (full_row last n p r p.mark.role r.seen (removal_of n (n + 1) ps) refl refl are.0.seen are.0),
+  finish_read last (n + 1) ps rs are.1,
+)
 
 -- ---- no row of items closes one before them
 le_true : (a b : ℕ) → a ≤ b → nat_le a b ≡ true
@@ -116,11 +147,11 @@ pair_passed opener kind inside closer rest within later at n es ls m k next befo
     let a = walk inside (plus at opener) (n + 1) (e ∷ es) in
     let b = walk rest (plus from closer) (n + 1 + rows_in inside + 1) es in
     let p : removal_in m (k + 1) (a ++ (c ∷ (b ++ ls))) ≡ removal_in m (k + 1 + rows_in inside) (c ∷ (b ++ ls)) =
-        within (plus at opener) (n + 1) (e ∷ es) (c ∷ (b ++ ls)) m (k + 1) (k + 1 + rows_in inside) (omega arith)
-            refl in
+    within (plus at opener) (n + 1) (e ∷ es) (c ∷ (b ++ ls)) m (k + 1) (k + 1 + rows_in inside) (omega arith)
+    refl in
     let q : removal_in m (k + 1 + rows_in inside + 1) (b ++ ls) ≡ removal_in m next ls =
-        later (plus from closer) (n + 1 + rows_in inside + 1) es ls m (k + 1 + rows_in inside + 1) next (omega arith)
-            (omega arith) in
+    later (plus from closer) (n + 1 + rows_in inside + 1) es ls m (k + 1 + rows_in inside + 1) next (omega arith)
+    (omega arith) in
     ap (λ l. removal_in m (k + 1) l) (append_assoc a (c ∷ b) ls) ∙ p ∙ rw (le_false n m before) q
 
 passed : (items : Items) → Passed items
@@ -139,7 +170,7 @@ passed stray = λ at n es ls m k next before is. next_same m ls k next is
 abbrev Finishes : Pos → Items → Type 0
 Finishes last items = (at : Length) (n : ℕ) (es : List Entry) (ls : List TreeRow) (k : ℕ) → k ≡ n + rows_in items
     → ((r : ℕ) → n ≤ r → (closer_of r (removal_in r k ls) ≡ None)
-      × (inner_end last (removal_in r k ls) ≡ place (behind items at)))
+    × (inner_end last (removal_in r k ls) ≡ place (behind items at)))
     → finish last n (walk items at n es ++ ls) ≡ tree_rows items at n es ++ finish last k ls
 
 finish_same : (last : Pos) (ls : List TreeRow) (n k : ℕ) → k ≡ n + 0 → finish last n ls ≡ finish last k ls
@@ -156,7 +187,7 @@ unclosed_finishes : (last : Pos) (opener : Length) (kind : ℕ) (inside : Items)
 unclosed_finishes last opener kind inside finishes at n es ls k is ends =
     let e : Entry = record { row = n; kind = kind } in
     let off : removal_in n (n + 1) (walk inside (plus at opener) (n + 1) (e ∷ es) ++ ls) ≡ removal_in n k ls =
-        passed inside (plus at opener) (n + 1) (e ∷ es) ls n (n + 1) k (omega arith) (omega arith) in
+    passed inside (plus at opener) (n + 1) (e ∷ es) ls n (n + 1) k (omega arith) (omega arith) in
     let here = ends n (omega arith) in
     let more = finishes (plus at opener) (n + 1) (e ∷ es) ls k (omega arith) (λ r h. ends r (omega arith)) in
     rw (off, here.0, here.1, more) refl
@@ -172,28 +203,31 @@ pair_finishes last opener kind inside closer rest finishes later at n es ls k is
     let b = walk rest (plus from closer) (n + 1 + rows_in inside + 1) es in
     let k1 = n + 1 + rows_in inside in
     let off : removal_in n (n + 1) (a ++ (c ∷ (b ++ ls))) ≡ removal_in n k1 (c ∷ (b ++ ls)) =
-        passed inside (plus at opener) (n + 1) (e ∷ es) (c ∷ (b ++ ls)) n (n + 1) k1 (omega arith) refl in
+    passed inside (plus at opener) (n + 1) (e ∷ es) (c ∷ (b ++ ls)) n (n + 1) k1 (omega arith) refl in
     let taken : removal_in n k1 (c ∷ (b ++ ls)) ≡ Some (record { row = k1; start = place from; closes = n }) =
-        rw (le_true n n (omega arith)) refl in
+    rw (le_true n n (omega arith)) refl in
     let partner : closer_of n (Some (record { row = k1; start = place from; closes = n })) ≡ Some k1 =
-        rw (eq_true n) refl in
+    rw (eq_true n) refl in
     let inside_rows : finish last (n + 1) (a ++ (c ∷ (b ++ ls)))
-        ≡ tree_rows inside (plus at opener) (n + 1) (e ∷ es) ++ finish last k1 (c ∷ (b ++ ls)) =
-        finishes (plus at opener) (n + 1) (e ∷ es) (c ∷ (b ++ ls)) k1 refl
-            (λ r h. (rw (le_true n r (omega arith), eq_false n r (omega arith)) refl, rw (le_true n r (omega arith))
-                refl)) in
+    ≡ tree_rows inside (plus at opener) (n + 1) (e ∷ es) ++ finish last k1 (c ∷ (b ++ ls)) =
+    finishes (plus at opener) (n + 1) (e ∷ es) (c ∷ (b ++ ls)) k1 refl
+    (λ r h. (
+      rw (le_true n r (omega arith), eq_false n r (omega arith)) refl,
+      rw (le_true n r (omega arith))
+          refl,
+    )) in
     let rest_rows : finish last (k1 + 1) (b ++ ls)
-        ≡ tree_rows rest (plus from closer) (k1 + 1) es ++ finish last k ls =
-          later (plus from closer) (k1 + 1) es ls k (omega arith) (λ r h. ends r (omega arith)) in
+    ≡ tree_rows rest (plus from closer) (k1 + 1) es ++ finish last k ls =
+    later (plus from closer) (k1 + 1) es ls k (omega arith) (λ r h. ends r (omega arith)) in
     let front : FullRow = full o (Some k1) (place from) in
     let mid : FullRow = full c (Some n) (place from) in
     let first : finish_row last n o (opens kind) (removal_in n (n + 1) (a ++ (c ∷ (b ++ ls)))) ≡ front =
-        rw (off, taken, partner) refl in
+    rw (off, taken, partner) refl in
     let shown = tree_rows inside (plus at opener) (n + 1) (e ∷ es) in
     ap (λ l. finish last n (o ∷ l)) (append_assoc a (c ∷ b) ls)
     ∙ ap (λ x. x ∷ finish last (n + 1) (a ++ (c ∷ (b ++ ls)))) first
     ∙ ap (λ l. front ∷ l) (inside_rows ∙ ap (λ l. shown ++ (mid ∷ l)) rest_rows
-      ∙ sym (append_assoc shown (mid ∷ tree_rows rest (plus from closer) (k1 + 1) es) (finish last k ls)))
+    ∙ sym (append_assoc shown (mid ∷ tree_rows rest (plus from closer) (k1 + 1) es) (finish last k ls)))
 
 finishes : (last : Pos) (items : Items) → Finishes last items
 finishes last end = λ at n es ls k is ends. finish_same last ls n k is
@@ -210,9 +244,9 @@ row_law limit t ms stands =
     let last : Pos = place (behind items start) in
     let w : Walked limit items start ms nothing_open = walks limit items start ms nothing_open stands tt in
     let read : AreFull (paired limit last ms) (finish last 0 (walk items start 0 [])) =
-        finish_read last 0 (placed_from limit nothing_open ms) (walk items start 0 []) w.placed in
+    finish_read last 0 (placed_from limit nothing_open ms) (walk items start 0 []) w.placed in
     let done : finish last 0 (walk items start 0 [] ++ []) ≡ tree_rows items start 0 [] ++ [] =
-        finishes last items start 0 [] [] (rows_in items) (omega arith) (λ r h. (refl, refl)) in
+    finishes last items start 0 [] [] (rows_in items) (omega arith) (λ r h. (refl, refl)) in
     subst (λ fs. AreFull (paired limit last ms) fs)
-        (ap (λ l. finish last 0 l) (sym (append-nil (walk items start 0 []))) ∙ done
-            ∙ append-nil (tree_rows items start 0 [])) read
+    (ap (λ l. finish last 0 l) (sym (append-nil (walk items start 0 []))) ∙ done
+    ∙ append-nil (tree_rows items start 0 [])) read

@@ -19,11 +19,11 @@ reuse_law limit level above t at ms s stands among can =
     let flat : depth_of (items_of t) ≤ max (depth t) 0 = depth_then t end in
     let shallow = p.shallow in
     let here : Stands limit (length s.entries) (items_of t) at ms =
-        relevels limit (items_of t) level (length s.entries) at ms (cut_then t end p.uncut refl) (omega arith) stands in
+    relevels limit (items_of t) level (length s.entries) at ms (cut_then t end p.uncut refl) (omega arith) stands in
     let w : Walked limit (items_of t) at ms s =
-        walks limit (items_of t) at ms s here (clear_of above t s.entries p.apart among) in
+    walks limit (items_of t) at ms s here (clear_of above t s.entries p.apart among) in
     let bare : Stands limit 0 (items_of t) at ms =
-        relevels limit (items_of t) level 0 at ms (cut_then t end p.uncut refl) (omega arith) stands in
+    relevels limit (items_of t) level 0 at ms (cut_then t end p.uncut refl) (omega arith) stands in
     let own : Walked limit (items_of t) at ms nothing_open = walks limit (items_of t) at ms nothing_open bare tt in
     record {
       alone = own.placed;

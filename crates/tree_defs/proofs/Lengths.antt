@@ -36,7 +36,7 @@ total_leaves (Two a b) = total_append (leaves_of a) (leaves_of b)
     ∙ ap (λ l. plus l (total (leaves_of b))) (total_leaves a) ∙ ap (λ l. plus (length_of a) l) (total_leaves b)
 total_leaves (Three a b c) =
     total_append (leaves_of a) (leaves_of b ++ leaves_of c)
-        ∙ ap (λ l. plus (total (leaves_of a)) l) (total_append (leaves_of b) (leaves_of c))
+    ∙ ap (λ l. plus (total (leaves_of a)) l) (total_append (leaves_of b) (leaves_of c))
     ∙ sym (plus_assoc (total (leaves_of a)) (total (leaves_of b)) (total (leaves_of c)))
     ∙ ap (λ l. plus (plus l (total (leaves_of b))) (total (leaves_of c))) (total_leaves a)
     ∙ ap (λ l. plus (plus (length_of a) l) (total (leaves_of c))) (total_leaves b)
@@ -46,8 +46,8 @@ total_leaves (Three a b c) =
 pub runs_of : (before ts rest all : List Tree) → all ≡ before ++ (ts ++ rest) → RunsFit all → RunsFit ts
 runs_of before ts rest all is fit = λ b run r h. fit (before ++ b) run (r ++ rest)
     (is ∙ ap (λ l. before ++ (l ++ rest)) h ∙ ap (λ l. before ++ l)
-        (append_assoc b (run ++ r) rest ∙ ap (λ l. b ++ l) (append_assoc run r rest))
-            ∙ sym (append_assoc before b (run ++ (r ++ rest))))
+    (append_assoc b (run ++ r) rest ∙ ap (λ l. b ++ l) (append_assoc run r rest))
+    ∙ sym (append_assoc before b (run ++ (r ++ rest))))
 
 pub front_runs : (ts rest : List Tree) → RunsFit (ts ++ rest) → RunsFit ts
 front_runs ts rest fit = runs_of [] ts rest (ts ++ rest) refl fit
@@ -57,7 +57,6 @@ back_runs before ts fit = runs_of before ts [] (before ++ ts) (ap (λ l. before 
 
 pub whole_fits : (ts : List Tree) → RunsFit ts → Fits (total ts)
 whole_fits ts fit = fit [] ts [] (sym (append-nil ts))
-
 
 -- a length that fits behind a place fits
 fits_behind : (at len : Length) → Fits (plus at len) → Fits len
@@ -70,8 +69,8 @@ run_fits at [] (r ∷ run) rest is ends fits = absurd (cc)
 run_fits at (t ∷ ts) (r ∷ run) rest is ends fits =
     let same : t ≡ r = cc in let more : ts ≡ run ++ rest = cc in
     subst (λ l. Fits l) (plus_assoc at (length_of t) (total run)
-        ∙ ap (λ x. plus at (plus (length_of x) (total run))) same)
-          (run_fits (plus at (length_of t)) ts run rest more ends.1 ends.0)
+    ∙ ap (λ x. plus at (plus (length_of x) (total run))) same)
+    (run_fits (plus at (length_of t)) ts run rest more ends.1 ends.0)
 
 -- where each tree of some ends at a place of two small numbers, each run of them has a length of two small numbers
 pub ends_runs : (at : Length) (ts : List Tree) → Fits at → EndsFit at ts → RunsFit ts
@@ -83,8 +82,11 @@ ends_runs at (t ∷ ts) at_fits ends (b ∷ before) run rest is =
 pub ends_append : (at : Length) (ts us : List Tree) → EndsFit at ts → EndsFit (plus at (total ts)) us
     → EndsFit at (ts ++ us)
 ends_append at [] us ends more = subst (λ p. EndsFit p us) (plus_none at) more
-ends_append at (t ∷ ts) us ends more = (ends.0, ends_append (plus at (length_of t)) ts us ends.1
-    (subst (λ p. EndsFit p us) (sym (plus_assoc at (length_of t) (total ts))) more))
+ends_append at (t ∷ ts) us ends more = (
+  ends.0,
+  ends_append (plus at (length_of t)) ts us ends.1
+      (subst (λ p. EndsFit p us) (sym (plus_assoc at (length_of t) (total ts))) more),
+)
 
 -- ---- the items of a tree are those of its lists opened
 pub items_append : (xs ys : List Tree) (rest : Items) → all_items (xs ++ ys) rest ≡ all_items xs (all_items ys rest)
@@ -101,6 +103,6 @@ leaf_items (Two a b) rest = items_append (leaves_of a) (leaves_of b) rest
     ∙ leaf_items a (all_items (leaves_of b) rest) ∙ ap (λ r. items_then a r) (leaf_items b rest)
 leaf_items (Three a b c) rest =
     items_append (leaves_of a) (leaves_of b ++ leaves_of c) rest
-        ∙ leaf_items a (all_items (leaves_of b ++ leaves_of c) rest)
+    ∙ leaf_items a (all_items (leaves_of b ++ leaves_of c) rest)
     ∙ ap (λ r. items_then a r) (items_append (leaves_of b) (leaves_of c) rest
-      ∙ leaf_items b (all_items (leaves_of c) rest) ∙ ap (λ r. items_then b r) (leaf_items c rest))
+    ∙ leaf_items b (all_items (leaves_of c) rest) ∙ ap (λ r. items_then b r) (leaf_items c rest))

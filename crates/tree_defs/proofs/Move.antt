@@ -31,17 +31,17 @@ plus_assoc a b c = elim (zero_or_more c.lines) [
   | inl flat ↦ elim (zero_or_more b.lines) [
     | inl level ↦ rw (plus_flat b c flat, plus_flat (plus a b) c flat, plus_flat a b level)
         (same_length _ _ refl (omega arith) ∙ sym
-            (plus_flat a (record { lines = b.lines; cols = b.cols + c.cols }) level))
+        (plus_flat a (record { lines = b.lines; cols = b.cols + c.cols }) level))
     | inr down ↦ rw (plus_flat b c flat, plus_flat (plus a b) c flat, plus_down a b down)
         (sym (plus_down a (record { lines = b.lines; cols = b.cols + c.cols }) down))
   ]
   | inr below ↦ elim (zero_or_more b.lines) [
     | inl level ↦ rw (plus_down b c below, plus_down (plus a b) c below, plus_flat a b level)
         (same_length _ _ (omega arith) refl ∙ sym
-            (plus_down a (record { lines = b.lines + c.lines; cols = c.cols }) (omega arith)))
+        (plus_down a (record { lines = b.lines + c.lines; cols = c.cols }) (omega arith)))
     | inr down ↦ rw (plus_down b c below, plus_down (plus a b) c below, plus_down a b down)
         (same_length _ _ (omega arith) refl ∙ sym
-            (plus_down a (record { lines = b.lines + c.lines; cols = c.cols }) (omega arith)))
+        (plus_down a (record { lines = b.lines + c.lines; cols = c.cols }) (omega arith)))
   ]
 ]
 
@@ -52,7 +52,7 @@ behind_plus (lone len kinds rest) at d =
     ap (λ x. behind rest x) (plus_assoc at d len) ∙ behind_plus rest at (plus d len)
 behind_plus (pair o k inside c rest) at d =
     ap (λ x. behind rest (plus (behind inside x) c)) (plus_assoc at d o)
-        ∙ ap (λ x. behind rest (plus x c)) (behind_plus inside at (plus d o))
+    ∙ ap (λ x. behind rest (plus x c)) (behind_plus inside at (plus d o))
     ∙ ap (λ x. behind rest x) (plus_assoc at (behind inside (plus d o)) c)
     ∙ behind_plus rest at (plus (behind inside (plus d o)) c)
 behind_plus (unclosed o k inside) at d =
@@ -100,13 +100,17 @@ lone_moves : (limit : ℕ) (len : Length) (kinds : Kinds) (rest : Items) → Mov
     → Moves limit (lone len kinds rest)
 lone_moves limit len kinds rest moves level at to d ms ns uncut stands are =
     let f : First at to stands.mark stands.more ns =
-        first_of at to stands.mark stands.more ns (subst (λ l. AreMoved at to l ns) stands.are are) in
+    first_of at to stands.mark stands.more ns (subst (λ l. AreMoved at to l ns) stands.are are) in
     record {
-      mark = f.n; more = f.rest; are = f.are; place = f.moved.same d len stands.place; role =
+      mark = f.n;
+      more = f.rest;
+      are = f.are;
+      place = f.moved.same d len stands.place;
+      role =
           f.moved.role ∙ stands.role;
       rest = subst (λ x. Stands limit level rest x f.rest) (sym (plus_assoc to d len))
           (moves level at to (plus d len) stands.more f.rest uncut
-              (subst (λ x. Stands limit level rest x stands.more) (plus_assoc at d len) stands.rest) f.more);
+          (subst (λ x. Stands limit level rest x stands.more) (plus_assoc at d len) stands.rest) f.more);
     }
 
 uncut_moves : (limit level : ℕ) (cut : Bool) (ms : List Mark) → cut ≡ false → AreCut limit level cut ms → ms ≡ []
@@ -120,15 +124,19 @@ uncut_none limit level false none = refl
 text_moves : (limit : ℕ) (len : Length) (cut : Bool) (rest : Items) → Moves limit rest → Moves limit (text len cut rest)
 text_moves limit len cut rest moves level at to d ms ns uncut stands are =
     let none : stands.cuts ≡ [] = uncut_moves limit level cut stands.cuts (or_left cut (cut_in rest) uncut)
-        stands.cut_ones in
+    stands.cut_ones in
     let is : ms ≡ stands.more = stands.are ∙ ap (λ c. c ++ stands.more) none in
     record {
-      cuts = []; more = ns; are = refl; cut_ones = uncut_none limit level cut (or_left cut (cut_in rest) uncut); lie =
+      cuts = [];
+      more = ns;
+      are = refl;
+      cut_ones = uncut_none limit level cut (or_left cut (cut_in rest) uncut);
+      lie =
           tt;
       rest = subst (λ x. Stands limit level rest x ns) (sym (plus_assoc to d len))
           (moves level at to (plus d len) stands.more ns (or_right cut (cut_in rest) uncut)
-              (subst (λ x. Stands limit level rest x stands.more) (plus_assoc at d len) stands.rest)
-                  (subst (λ l. AreMoved at to l ns) is are));
+          (subst (λ x. Stands limit level rest x stands.more) (plus_assoc at d len) stands.rest)
+          (subst (λ l. AreMoved at to l ns) is are));
     }
 
 -- inside a pair
@@ -137,17 +145,23 @@ inside_moves : (limit level : ℕ) (inside : Items) (at to d o : Length) (ms ns 
     → Stands limit level inside (plus (plus to d) o) ns
 inside_moves limit level inside at to d o ms ns moves uncut stands are =
     subst (λ x. Stands limit level inside x ns) (sym (plus_assoc to d o))
-        (moves level at to (plus d o) ms ns uncut
-            (subst (λ x. Stands limit level inside x ms) (plus_assoc at d o) stands) are)
+    (moves level at to (plus d o) ms ns uncut
+    (subst (λ x. Stands limit level inside x ms) (plus_assoc at d o) stands) are)
 
 unclosed_moves : (limit : ℕ) (o : Length) (k : ℕ) (inside : Items) → Moves limit inside
     → Moves limit (unclosed o k inside)
 unclosed_moves limit o k inside moves level at to d ms ns uncut stands are =
     let f : First at to stands.mark stands.within ns =
-        first_of at to stands.mark stands.within ns (subst (λ l. AreMoved at to l ns) stands.are are) in
+    first_of at to stands.mark stands.within ns (subst (λ l. AreMoved at to l ns) stands.are are) in
     record {
-      mark = f.n; within = f.rest; are = f.are; place = f.moved.same d o stands.place; role =
-          f.moved.role ∙ stands.role; room = stands.room; not_missed = stands.not_missed;
+      mark = f.n;
+      within = f.rest;
+      are = f.are;
+      place = f.moved.same d o stands.place;
+      role =
+          f.moved.role ∙ stands.role;
+      room = stands.room;
+      not_missed = stands.not_missed;
       held = inside_moves limit (level + 1) inside at to d o stands.within f.rest moves uncut stands.held f.more;
     }
 
@@ -160,29 +174,38 @@ pair_moves : (limit : ℕ) (o : Length) (k : ℕ) (inside : Items) (c : Length) 
     → Moves limit rest → Moves limit (pair o k inside c rest)
 pair_moves limit o k inside c rest moves later level at to d ms ns uncut stands are =
     let f : First at to stands.mark (stands.within ++ stands.last ∷ stands.more) ns =
-        first_of at to stands.mark (stands.within ++ stands.last ∷ stands.more) ns
-            (subst (λ l. AreMoved at to l ns) stands.are are) in
+    first_of at to stands.mark (stands.within ++ stands.last ∷ stands.more) ns
+    (subst (λ l. AreMoved at to l ns) stands.are are) in
     let p = moved_parts at to stands.within (stands.last ∷ stands.more) f.rest f.more in
     let us : List Mark = p.0 in
     let l : First at to stands.last stands.more p.1 = first_of at to stands.last stands.more p.1 p.4 in
     let mid : Length = behind inside (plus d o) in
     let behind_old : plus (behind inside (plus (plus at d) o)) c ≡ plus at (plus mid c) =
-        ap (λ x. plus x c) (inside_ends inside at d o) ∙ plus_assoc at mid c in
+    ap (λ x. plus x c) (inside_ends inside at d o) ∙ plus_assoc at mid c in
     let behind_new : plus (behind inside (plus (plus to d) o)) c ≡ plus to (plus mid c) =
-        ap (λ x. plus x c) (inside_ends inside to d o) ∙ plus_assoc to mid c in
+    ap (λ x. plus x c) (inside_ends inside to d o) ∙ plus_assoc to mid c in
     record {
-      mark = f.n; within = us; last = l.n; more = l.rest; kinds = stands.kinds;
+      mark = f.n;
+      within = us;
+      last = l.n;
+      more = l.rest;
+      kinds = stands.kinds;
       are = f.are ∙ ap (λ x. f.n ∷ x) (p.2 ∙ ap (λ x. us ++ x) l.are);
-      place = f.moved.same d o stands.place; role = f.moved.role ∙ stands.role; room = stands.room; not_missed =
+      place = f.moved.same d o stands.place;
+      role = f.moved.role ∙ stands.role;
+      room = stands.room;
+      not_missed =
           stands.not_missed;
       held = inside_moves limit (level + 1) inside at to d o stands.within us moves
           (or_left (cut_in inside) (cut_in rest) uncut) stands.held p.3;
       last_place = subst (λ x. IsAt l.n x c) (sym (inside_ends inside to d o))
           (l.moved.same mid c (subst (λ x. IsAt stands.last x c) (inside_ends inside at d o) stands.last_place));
-      last_role = l.moved.role ∙ stands.last_role; takes = stands.takes; passes = stands.passes;
+      last_role = l.moved.role ∙ stands.last_role;
+      takes = stands.takes;
+      passes = stands.passes;
       rest = subst (λ x. Stands limit level rest x l.rest) (sym behind_new)
           (later level at to (plus mid c) stands.more l.rest (or_right (cut_in inside) (cut_in rest) uncut)
-              (subst (λ x. Stands limit level rest x stands.more) behind_old stands.rest) l.more);
+          (subst (λ x. Stands limit level rest x stands.more) behind_old stands.rest) l.more);
     }
 
 -- what has no cut text stands at another place for its marks moved there

@@ -61,7 +61,7 @@ cut_then (Three a b c) rest h r =
     let tail = or_right (is_cut a) (is_cut b || is_cut c) h in
     cut_then a (items_then b (items_then c rest)) (or_left (is_cut a) (is_cut b || is_cut c) h)
     (cut_then b (items_then c rest) (or_left (is_cut b) (is_cut c) tail)
-        (cut_then c rest (or_right (is_cut b) (is_cut c) tail) r))
+    (cut_then c rest (or_right (is_cut b) (is_cut c) tail) r))
 
 -- ---- missing kinds
 unclosed_missed : (j : ℕ) (o : Length) (k : ℕ) (inside rest : Items) → missed_in inside j ≡ false
@@ -89,13 +89,16 @@ missed_then j (Three a b c) rest h r =
     let tail = or_right (misses a j) (misses b j || misses c j) h in
     missed_then j a (items_then b (items_then c rest)) (or_left (misses a j) (misses b j || misses c j) h)
     (missed_then j b (items_then c rest) (or_left (misses b j) (misses c j) tail)
-        (missed_then j c rest (or_right (misses b j) (misses c j) tail) r))
+    (missed_then j c rest (or_right (misses b j) (misses c j) tail) r))
 
 pub clear_of : (above : Kinds) (t : Tree) (es : List Entry)
     → ((k : ℕ) → IsTrue (has_kind above k) → misses t k ≡ false) → AreAmong above es → Clear (items_of t) es
 clear_of above t [] apart among = tt
-clear_of above t (e ∷ es) apart among = (missed_then e.kind t end (apart e.kind among.0) refl, clear_of above t es
-    apart among.1)
+clear_of above t (e ∷ es) apart among = (
+  missed_then e.kind t end (apart e.kind among.0) refl,
+  clear_of above t es
+      apart among.1,
+)
 
 -- ---- nothing is left open behind what can be reused
 abbrev pub Shut : Items → Type 0
@@ -149,7 +152,7 @@ shut_then (Two a b) rest more shut = shut_then a (items_then b rest) (more_then 
 shut_then (Three a b c) rest more shut =
     let last = more_then c rest more in
     shut_then a (items_then b (items_then c rest)) (more_then b (items_then c rest) last)
-        (shut_then b (items_then c rest) last (shut_then c rest more shut))
+    (shut_then b (items_then c rest) last (shut_then c rest more shut))
 
 module _ (above : Kinds) (level limit : ℕ) where
   pub reused_more : (t : Tree) (rest : Items) → CanBeReused above level limit t → IsMore (items_then t rest)
@@ -174,7 +177,7 @@ module _ (above : Kinds) (level limit : ℕ) where
   reused_shut (Three a b c) can =
       let last = reused_more c end can.1 in
       shut_then a (items_then b (items_then c end)) (more_then b (items_then c end) last)
-          (shut_then b (items_then c end) last (reused_shut c can.1))
+      (shut_then b (items_then c end) last (reused_shut c can.1))
 
   pub passes_of : (t : Tree) → CanBeReused above level limit t → Passes above level limit t
   passes_of Nothing can = absurd can

@@ -60,32 +60,65 @@ module _ (limit level : ℕ) where
 
   text_splits : (len : Length) (cut : Bool) → Splitting limit level (λ rest. text len cut rest)
   text_splits len cut rest at ms stands = record {
-    front = stands.cuts; back = stands.more; are = stands.are; tail = stands.rest;
-    again = λ other more fits s. record { cuts = stands.cuts; more = more; are = refl; cut_ones =
-        stands.cut_ones; lie = stands.lie; rest = s };
+    front = stands.cuts;
+    back = stands.more;
+    are = stands.are;
+    tail = stands.rest;
+    again = λ other more fits s. record {
+      cuts = stands.cuts;
+      more = more;
+      are = refl;
+      cut_ones =
+          stands.cut_ones;
+      lie = stands.lie;
+      rest = s;
+    };
     ends = λ other fits. refl;
   }
 
   lone_splits : (len : Length) (kinds : Kinds) → Splitting limit level (λ rest. lone len kinds rest)
   lone_splits len kinds rest at ms stands = record {
-    front = stands.mark ∷ []; back = stands.more; are = stands.are; tail = stands.rest;
-    again = λ other more fits s. record { mark = stands.mark; more = more; are = refl; place = stands.place; role =
-        stands.role; rest = s };
+    front = stands.mark ∷ [];
+    back = stands.more;
+    are = stands.are;
+    tail = stands.rest;
+    again = λ other more fits s. record {
+      mark = stands.mark;
+      more = more;
+      are = refl;
+      place = stands.place;
+      role =
+          stands.role;
+      rest = s;
+    };
     ends = λ other fits. refl;
   }
 
   pair_splits : (o : Length) (k : ℕ) (inside : Items) (c : Length)
       → Splitting limit level (λ rest. pair o k inside c rest)
   pair_splits o k inside c rest at ms stands = record {
-    front = stands.mark ∷ (stands.within ++ stands.last ∷ []); back = stands.more;
+    front = stands.mark ∷ (stands.within ++ stands.last ∷ []);
+    back = stands.more;
     are = stands.are ∙ ap (λ l. stands.mark ∷ l) (sym (append_assoc stands.within (stands.last ∷ []) stands.more));
     tail = stands.rest;
     again = λ other more fits s. record {
-      mark = stands.mark; within = stands.within; last = stands.last; more = more; kinds = stands.kinds;
+      mark = stands.mark;
+      within = stands.within;
+      last = stands.last;
+      more = more;
+      kinds = stands.kinds;
       are = ap (λ l. stands.mark ∷ l) (append_assoc stands.within (stands.last ∷ []) more);
-      place = stands.place; role = stands.role; room = stands.room; held = stands.held; not_missed = stands.not_missed;
-      last_place = stands.last_place; last_role = stands.last_role; takes = stands.takes; passes =
-          stands.passes; rest = s
+      place = stands.place;
+      role = stands.role;
+      room = stands.room;
+      held = stands.held;
+      not_missed = stands.not_missed;
+      last_place = stands.last_place;
+      last_role = stands.last_role;
+      takes = stands.takes;
+      passes =
+          stands.passes;
+      rest = s;
     };
     ends = λ other fits. refl;
   }
@@ -97,7 +130,7 @@ module _ (limit level : ℕ) where
       → Stands limit level (unclosed_then o k inside other) at (front ++ more)
   unclosed_again o k inside at front stands end more none s =
       subst (λ l. Stands limit level (unclosed o k inside) at l) (sym (ap (λ l. front ++ l) s ∙ append-nil front))
-          stands
+      stands
   unclosed_again o k inside at front stands (text a b c) more none s = absurd (none tt)
   unclosed_again o k inside at front stands (lone a b c) more none s = absurd (none tt)
   unclosed_again o k inside at front stands (pair a b c d e) more none s = absurd (none tt)
@@ -117,7 +150,10 @@ module _ (limit level : ℕ) where
       → Stands limit level (unclosed_then o k inside rest) at ms
       → Splits limit level (unclosed_then o k inside) rest at ms
   unclosed_splits o k inside end at ms stands = record {
-    front = ms; back = []; are = sym (append-nil ms); tail = refl;
+    front = ms;
+    back = [];
+    are = sym (append-nil ms);
+    tail = refl;
     again = λ other more fits s. unclosed_again o k inside at ms stands other more fits s;
     ends = λ other fits. unclosed_ends o k inside at other fits;
   }
@@ -135,13 +171,14 @@ module _ (limit level : ℕ) where
       let q : Splits limit level b rest mid p.back = b_splits rest mid p.back p.tail in
       let ending : behind (a (b end)) at ≡ behind (b end) mid = p.ends (b end) (keeping end rest (λ h. no_end h)) in
       record {
-        front = p.front ++ q.front; back = q.back;
+        front = p.front ++ q.front;
+        back = q.back;
         are = p.are ∙ ap (λ l. p.front ++ l) q.are ∙ sym (append_assoc p.front q.front q.back);
         tail = subst (λ x. Stands limit level rest x q.back) (sym ending) q.tail;
         again = λ other more fits s.
             subst (λ l. Stands limit level (a (b other)) at l) (sym (append_assoc p.front q.front more))
             (p.again (b other) (q.front ++ more) (keeping other rest fits)
-                (q.again other more fits (subst (λ x. Stands limit level other x more) ending s)));
+            (q.again other more fits (subst (λ x. Stands limit level other x more) ending s)));
         ends = λ other fits. p.ends (b other) (keeping other rest fits) ∙ q.ends other fits
             ∙ ap (λ x. behind other x) (sym ending);
       }
@@ -188,23 +225,43 @@ module _ (limit level : ℕ) where
 
   text_joins : (len : Length) (cut : Bool) → Joining (λ rest. text len cut rest)
   text_joins len cut at ms stands other more s = record {
-    cuts = stands.cuts; more = more; cut_ones = stands.cut_ones; lie = stands.lie; rest = s;
+    cuts = stands.cuts;
+    more = more;
+    cut_ones = stands.cut_ones;
+    lie = stands.lie;
+    rest = s;
     are = ap (λ l. l ++ more) (stands.are ∙ ap (λ l. stands.cuts ++ l) stands.rest ∙ append-nil stands.cuts);
   }
 
   lone_joins : (len : Length) (kinds : Kinds) → Joining (λ rest. lone len kinds rest)
   lone_joins len kinds at ms stands other more s = record {
-    mark = stands.mark; more = more; place = stands.place; role = stands.role; rest = s;
+    mark = stands.mark;
+    more = more;
+    place = stands.place;
+    role = stands.role;
+    rest = s;
     are = ap (λ l. l ++ more) (stands.are ∙ ap (λ l. stands.mark ∷ l) stands.rest);
   }
 
   pair_joins : (o : Length) (k : ℕ) (inside : Items) (c : Length) → Joining (λ rest. pair o k inside c rest)
   pair_joins o k inside c at ms stands other more s = record {
-    mark = stands.mark; within = stands.within; last = stands.last; more = more; kinds = stands.kinds;
+    mark = stands.mark;
+    within = stands.within;
+    last = stands.last;
+    more = more;
+    kinds = stands.kinds;
     are = ap (λ l. l ++ more) (stands.are ∙ ap (λ l. stands.mark ∷ (stands.within ++ stands.last ∷ l)) stands.rest)
         ∙ ap (λ l. stands.mark ∷ l) (append_assoc stands.within (stands.last ∷ []) more);
-    place = stands.place; role = stands.role; room = stands.room; held = stands.held; not_missed = stands.not_missed;
-    last_place = stands.last_place; last_role = stands.last_role; takes = stands.takes; passes = stands.passes; rest =
+    place = stands.place;
+    role = stands.role;
+    room = stands.room;
+    held = stands.held;
+    not_missed = stands.not_missed;
+    last_place = stands.last_place;
+    last_role = stands.last_role;
+    takes = stands.takes;
+    passes = stands.passes;
+    rest =
         s;
   }
 
@@ -215,10 +272,10 @@ module _ (limit level : ℕ) where
       let mid : Length = behind (a end) at in
       let ending : behind (a (b end)) at ≡ behind (b end) mid = p.ends (b end) (λ h. h) in
       let joined : Stands limit level (b other) mid (p.back ++ more) =
-          b_joins mid p.back p.tail other more (subst (λ x. Stands limit level other x more) ending s) in
+      b_joins mid p.back p.tail other more (subst (λ x. Stands limit level other x more) ending s) in
       subst (λ l. Stands limit level (a (b other)) at l)
-          (sym (ap (λ l. l ++ more) p.are ∙ append_assoc p.front p.back more))
-              (p.again (b other) (p.back ++ more) (λ h. b_more end) joined)
+      (sym (ap (λ l. l ++ more) p.are ∙ append_assoc p.front p.back more))
+      (p.again (b other) (p.back ++ more) (λ h. b_more end) joined)
 
   -- what ends in no pair without closer stands before whatever stands behind it
   pub joins : (t : Tree) → EndsShut t → Joining (items_then t)
@@ -232,7 +289,7 @@ module _ (limit level : ℕ) where
       (λ other. shut_more b other shut) (joins b shut)
   joins (Three a b c) shut = both_join (items_then a) (λ rest. items_then b (items_then c rest))
       (λ other rest fits more. keeps b (items_then c other) (items_then c rest) (keeps c other rest fits) more)
-          (splits limit level a)
+      (splits limit level a)
       (λ other. more_then b (items_then c other) (shut_more c other shut))
-          (both_join (items_then b) (items_then c) (keeps c) (splits limit level b) (λ other. shut_more c other shut)
-              (joins c shut))
+      (both_join (items_then b) (items_then c) (keeps c) (splits limit level b) (λ other. shut_more c other shut)
+      (joins c shut))

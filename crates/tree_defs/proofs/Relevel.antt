@@ -20,7 +20,10 @@ uncut limit old new false ms none are = are
 text_relevels : (limit : ℕ) (len : Length) (cut : Bool) (rest : Items) → Relevels limit rest
     → Relevels limit (text len cut rest)
 text_relevels limit len cut rest relevels old new at ms none room stands = record {
-  cuts = stands.cuts; more = stands.more; are = stands.are; lie = stands.lie;
+  cuts = stands.cuts;
+  more = stands.more;
+  are = stands.are;
+  lie = stands.lie;
   cut_ones = uncut limit old new cut stands.cuts (or_left cut (cut_in rest) none) stands.cut_ones;
   rest = relevels old new (plus at len) stands.more (or_right cut (cut_in rest) none) room stands.rest;
 }
@@ -28,17 +31,33 @@ text_relevels limit len cut rest relevels old new at ms none room stands = recor
 lone_relevels : (limit : ℕ) (len : Length) (kinds : Kinds) (rest : Items) → Relevels limit rest
     → Relevels limit (lone len kinds rest)
 lone_relevels limit len kinds rest relevels old new at ms none room stands = record {
-  mark = stands.mark; more = stands.more; are = stands.are; place = stands.place; role = stands.role;
+  mark = stands.mark;
+  more = stands.more;
+  are = stands.are;
+  place = stands.place;
+  role = stands.role;
   rest = relevels old new (plus at len) stands.more none room stands.rest;
 }
 
 pair_relevels : (limit : ℕ) (opener : Length) (kind : ℕ) (inside : Items) (closer : Length) (rest : Items)
     → Relevels limit inside → Relevels limit rest → Relevels limit (pair opener kind inside closer rest)
 pair_relevels limit opener kind inside closer rest relevels later old new at ms none room stands = record {
-  mark = stands.mark; within = stands.within; last = stands.last; more = stands.more; kinds = stands.kinds; are =
-      stands.are; place = stands.place; role = stands.role;
-  room = omega arith; not_missed = stands.not_missed; last_place = stands.last_place; last_role =
-      stands.last_role; takes = stands.takes; passes = stands.passes;
+  mark = stands.mark;
+  within = stands.within;
+  last = stands.last;
+  more = stands.more;
+  kinds = stands.kinds;
+  are =
+      stands.are;
+  place = stands.place;
+  role = stands.role;
+  room = omega arith;
+  not_missed = stands.not_missed;
+  last_place = stands.last_place;
+  last_role =
+      stands.last_role;
+  takes = stands.takes;
+  passes = stands.passes;
   held = relevels (old + 1) (new + 1) (plus at opener) stands.within (or_left (cut_in inside) (cut_in rest) none)
       (omega arith) stands.held;
   rest = later old new (plus (behind inside (plus at opener)) closer) stands.more
@@ -48,8 +67,14 @@ pair_relevels limit opener kind inside closer rest relevels later old new at ms 
 unclosed_relevels : (limit : ℕ) (opener : Length) (kind : ℕ) (inside : Items) → Relevels limit inside
     → Relevels limit (unclosed opener kind inside)
 unclosed_relevels limit opener kind inside relevels old new at ms none room stands = record {
-  mark = stands.mark; within = stands.within; are = stands.are; place = stands.place; role = stands.role; room =
-      omega arith; not_missed = stands.not_missed;
+  mark = stands.mark;
+  within = stands.within;
+  are = stands.are;
+  place = stands.place;
+  role = stands.role;
+  room =
+      omega arith;
+  not_missed = stands.not_missed;
   held = relevels (old + 1) (new + 1) (plus at opener) stands.within none (omega arith) stands.held;
 }
 

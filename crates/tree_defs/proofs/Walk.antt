@@ -50,8 +50,16 @@ is_read : (m : Mark) (at len : Length) (seen : Seen) (level own : ℕ) (closes :
     → SeenAs m.role seen
     → IsRead (record { mark = m; level = level; own = own; closes = closes }) (row_at at len seen level own closes)
 is_read m at len seen level own closes place seen_as =
-    record { line = place.line; col = place.col; to = place.to; seen = seen_as; level = refl; own = refl; closes =
-        refl }
+    record {
+      line = place.line;
+      col = place.col;
+      to = place.to;
+      seen = seen_as;
+      level = refl;
+      own = refl;
+      closes =
+          refl;
+    }
 
 -- ---- each item
 no_row : (limit : ℕ) (m : Mark) (ms : List Mark) (s : Open) (role : Role) → m.role ≡ role → limit ≤ length s.entries
@@ -76,15 +84,15 @@ text_walks : (limit : ℕ) (len : Length) (cut : Bool) (rest : Items) → Walks 
 text_walks limit len cut rest walks at ms s stands clear =
     let none = no_cuts limit (length s.entries) cut stands.cuts s refl stands.cut_ones in
     let w : Walked limit rest (plus at len) stands.more s =
-        walks (plus at len) stands.more s stands.rest
-            (clear_less (text len cut rest) rest s.entries (λ k h. h) clear) in
+    walks (plus at len) stands.more s stands.rest
+    (clear_less (text len cut rest) rest s.entries (λ k h. h) clear) in
     let placed : placed_from limit s ms ≡ placed_from limit s stands.more =
-        ap (λ l. placed_from limit s l) stands.are ∙ placed_append limit stands.cuts stands.more s
-            ∙ ap (λ l. l ++ placed_from limit (open_after limit s stands.cuts) stands.more) none.0
-            ∙ ap (λ o. placed_from limit o stands.more) none.1 in
+    ap (λ l. placed_from limit s l) stands.are ∙ placed_append limit stands.cuts stands.more s
+    ∙ ap (λ l. l ++ placed_from limit (open_after limit s stands.cuts) stands.more) none.0
+    ∙ ap (λ o. placed_from limit o stands.more) none.1 in
     let opened : open_after limit s ms ≡ open_after limit s stands.more =
-        ap (λ l. open_after limit s l) stands.are ∙ open_append limit stands.cuts stands.more s
-            ∙ ap (λ o. open_after limit o stands.more) none.1 in
+    ap (λ l. open_after limit s l) stands.are ∙ open_append limit stands.cuts stands.more s
+    ∙ ap (λ o. open_after limit o stands.more) none.1 in
     record {
       entries = ap (λ o. o.entries) opened ∙ w.entries;
       rows = ap (λ o. o.rows) opened ∙ w.rows;
@@ -95,17 +103,18 @@ lone_walks : (limit : ℕ) (len : Length) (kinds : Kinds) (rest : Items) → Wal
     → Walks limit (lone len kinds rest)
 lone_walks limit len kinds rest walks at ms s stands clear =
     let none : from_last kinds s.entries ≡ [] =
-        none_taken kinds s.entries (lone_clear len kinds rest s.entries clear) in
+    none_taken kinds s.entries (lone_clear len kinds rest s.entries clear) in
     let next : Open = record { rows = s.rows + 1; entries = s.entries } in
     let w : Walked limit rest (plus at len) stands.more next = walks (plus at len) stands.more next stands.rest
-        (clear_less (lone len kinds rest) rest s.entries (λ k h. or_right (has_kind kinds k) (missed_in rest k) h)
-            clear) in
+    (clear_less (lone len kinds rest) rest s.entries (λ k h. or_right (has_kind kinds k) (missed_in rest k) h)
+    clear) in
     rw (stands.are) (record {
       entries = ap (λ o. o.entries) (lone_open limit s stands.mark kinds stands.more stands.role none) ∙ w.entries;
       rows = ap (λ o. o.rows) (lone_open limit s stands.mark kinds stands.more stands.role none) ∙ w.rows ∙ omega arith;
-      placed = rw (lone_placed limit s stands.mark kinds stands.more stands.role none)
-          (is_read stands.mark at len (alone kinds) (length s.entries) 0 None stands.place (rw (stands.role) refl),
-              w.placed);
+      placed = rw (lone_placed limit s stands.mark kinds stands.more stands.role none) (
+        is_read stands.mark at len (alone kinds) (length s.entries) 0 None stands.place (rw (stands.role) refl),
+        w.placed,
+      );
     })
 
 unclosed_walks : (limit : ℕ) (opener : Length) (kind : ℕ) (inside : Items) → Walks limit inside
@@ -115,17 +124,19 @@ unclosed_walks limit opener kind inside walks at ms s stands clear =
     let e : Entry = record { row = s.rows; kind = kind } in
     let next : Open = record { rows = s.rows + 1; entries = e ∷ s.entries } in
     let w : Walked limit inside (plus at opener) stands.within next =
-        walks (plus at opener) stands.within next
-            (subst (λ n. Stands limit n inside (plus at opener) stands.within) (deeper s.entries e) stands.held)
-                (stands.not_missed, clear_less (unclosed opener kind inside) inside s.entries (λ k h. h) clear) in
+    walks (plus at opener) stands.within next
+    (subst (λ n. Stands limit n inside (plus at opener) stands.within) (deeper s.entries e) stands.held)
+    (stands.not_missed, clear_less (unclosed opener kind inside) inside s.entries (λ k h. h) clear) in
     rw (stands.are) (record {
       entries = ap (λ o. o.entries) (opener_open limit s stands.mark kind stands.within stands.role free) ∙ w.entries
           ∙ sym (append_assoc (left_by (s.rows + 1) inside) (e ∷ []) s.entries);
       rows = ap (λ o. o.rows) (opener_open limit s stands.mark kind stands.within stands.role free) ∙ w.rows
           ∙ omega arith;
-      placed = rw (opener_placed limit s stands.mark kind stands.within stands.role free)
-          (is_read stands.mark at opener (opens kind) (length s.entries) (of_kind kind s.entries) None stands.place
-              (rw (stands.role) refl), w.placed);
+      placed = rw (opener_placed limit s stands.mark kind stands.within stands.role free) (
+        is_read stands.mark at opener (opens kind) (length s.entries) (of_kind kind s.entries) None stands.place
+            (rw (stands.role) refl),
+        w.placed,
+      );
     })
 
 pair_walks : (limit : ℕ) (opener : Length) (kind : ℕ) (inside : Items) (closer : Length) (rest : Items)
@@ -136,52 +147,60 @@ pair_walks limit opener kind inside closer rest walks later at ms s stands clear
     let next : Open = record { rows = s.rows + 1; entries = e ∷ s.entries } in
     let from : Length = behind inside (plus at opener) in
     let w : Walked limit inside (plus at opener) stands.within next =
-        walks (plus at opener) stands.within next
-            (subst (λ n. Stands limit n inside (plus at opener) stands.within) (deeper s.entries e) stands.held)
-        (stands.not_missed, clear_less (pair opener kind inside closer rest) inside s.entries
-            (λ k h. or_left (missed_in inside k) (missed_in rest k) h) clear) in
+    walks (plus at opener) stands.within next
+    (subst (λ n. Stands limit n inside (plus at opener) stands.within) (deeper s.entries e) stands.held) (
+      stands.not_missed,
+      clear_less (pair opener kind inside closer rest) inside s.entries
+          (λ k h. or_left (missed_in inside k) (missed_in rest k) h) clear,
+    ) in
     let mid : Open = open_after limit next stands.within in
     let found : from_last stands.kinds mid.entries ≡ e ∷ s.entries =
-        ap (λ es. from_last stands.kinds es) w.entries
-            ∙ taken_behind stands.kinds (left_by (s.rows + 1) inside) e s.entries (stands.passes (s.rows + 1))
-              stands.takes in
+    ap (λ es. from_last stands.kinds es) w.entries
+    ∙ taken_behind stands.kinds (left_by (s.rows + 1) inside) e s.entries (stands.passes (s.rows + 1))
+    stands.takes in
     let behind_it : Open = record { rows = mid.rows + 1; entries = s.entries } in
     let v : Walked limit rest (plus from closer) stands.more behind_it =
-        later (plus from closer) stands.more behind_it stands.rest
-        (clear_less (pair opener kind inside closer rest) rest s.entries
-            (λ k h. or_right (missed_in inside k) (missed_in rest k) h) clear) in
+    later (plus from closer) stands.more behind_it stands.rest
+    (clear_less (pair opener kind inside closer rest) rest s.entries
+    (λ k h. or_right (missed_in inside k) (missed_in rest k) h) clear) in
     let row : mid.rows + 1 ≡ s.rows + 1 + rows_in inside + 1 = ap (λ n. n + 1) w.rows in
     let opened : open_after limit s ms ≡ open_after limit behind_it stands.more =
-        ap (λ l. open_after limit s l) stands.are
-            ∙ opener_open limit s stands.mark kind (stands.within ++ stands.last ∷ stands.more) stands.role free
-        ∙ open_append limit stands.within (stands.last ∷ stands.more) next
-        ∙ closer_open limit mid stands.last stands.kinds e s.entries stands.more stands.last_role found in
+    ap (λ l. open_after limit s l) stands.are
+    ∙ opener_open limit s stands.mark kind (stands.within ++ stands.last ∷ stands.more) stands.role free
+    ∙ open_append limit stands.within (stands.last ∷ stands.more) next
+    ∙ closer_open limit mid stands.last stands.kinds e s.entries stands.more stands.last_role found in
     let placed : placed_from limit s ms ≡ record
-        { mark = stands.mark; level = length s.entries; own = of_kind kind s.entries; closes = None }
-            ∷ (placed_from limit next stands.within ++ record
-                { mark = stands.last; level = length s.entries; own = of_kind kind s.entries; closes = Some s.rows }
-                    ∷ placed_from limit behind_it stands.more) =
-        ap (λ l. placed_from limit s l) stands.are
-            ∙ opener_placed limit s stands.mark kind (stands.within ++ stands.last ∷ stands.more) stands.role free
-        ∙ ap (λ l. record { mark = stands.mark; level = length s.entries; own = of_kind kind s.entries; closes =
-          None } ∷ l)
-            (placed_append limit stands.within (stands.last ∷ stands.more) next
-                ∙ ap (λ l. placed_from limit next stands.within ++ l)
-                  (closer_placed limit mid stands.last stands.kinds e s.entries stands.more stands.last_role found)) in
+    { mark = stands.mark; level = length s.entries; own = of_kind kind s.entries; closes = None }
+    ∷ (placed_from limit next stands.within ++ record
+    { mark = stands.last; level = length s.entries; own = of_kind kind s.entries; closes = Some s.rows }
+    ∷ placed_from limit behind_it stands.more) =
+    ap (λ l. placed_from limit s l) stands.are
+    ∙ opener_placed limit s stands.mark kind (stands.within ++ stands.last ∷ stands.more) stands.role free
+    ∙ ap (λ l. record {
+      mark = stands.mark;
+      level = length s.entries;
+      own = of_kind kind s.entries;
+      closes =
+          None;
+    } ∷ l)
+    (placed_append limit stands.within (stands.last ∷ stands.more) next
+    ∙ ap (λ l. placed_from limit next stands.within ++ l)
+    (closer_placed limit mid stands.last stands.kinds e s.entries stands.more stands.last_role found)) in
     let last_read = is_read stands.last from closer (closes_kind kind) (length s.entries) (of_kind kind s.entries)
-        (Some s.rows) stands.last_place (rw (stands.last_role) stands.takes) in
+    (Some s.rows) stands.last_place (rw (stands.last_role) stands.takes) in
     let more_read : AreRead (placed_from limit behind_it stands.more)
-        (walk rest (plus from closer) (s.rows + 1 + rows_in inside + 1) s.entries) =
-            subst (λ n. AreRead (placed_from limit behind_it stands.more) (walk rest (plus from closer) n s.entries))
-                row v.placed in
+    (walk rest (plus from closer) (s.rows + 1 + rows_in inside + 1) s.entries) =
+    subst (λ n. AreRead (placed_from limit behind_it stands.more) (walk rest (plus from closer) n s.entries))
+    row v.placed in
     record {
       entries = ap (λ o. o.entries) opened ∙ v.entries ∙ ap (λ n. left_by n rest ++ s.entries) row;
       rows = ap (λ o. o.rows) opened ∙ v.rows ∙ omega arith;
-      placed = rw placed
-          (is_read stands.mark at opener (opens kind) (length s.entries) (of_kind kind s.entries) None stands.place
-              (rw (stands.role) refl),
-          read_append (placed_from limit next stands.within)
-              (walk inside (plus at opener) (s.rows + 1) (e ∷ s.entries)) _ _ w.placed (last_read, more_read));
+      placed = rw placed (
+        is_read stands.mark at opener (opens kind) (length s.entries) (of_kind kind s.entries) None stands.place
+            (rw (stands.role) refl),
+        read_append (placed_from limit next stands.within)
+            (walk inside (plus at opener) (s.rows + 1) (e ∷ s.entries)) _ _ w.placed (last_read, more_read),
+      );
     }
 
 end_walks : (limit : ℕ) → Walks limit end

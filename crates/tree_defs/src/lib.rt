@@ -4,4 +4,6 @@
 
 pub mod laws;
 
-pub use laws::{nodes_can_be_reused, standing_trees_have_the_rows, trees_have_the_rows_of_the_pairing};
+pub use laws::{
+    nodes_can_be_reused, standing_trees_have_the_rows, trees_have_the_rows_of_the_pairing,
+};

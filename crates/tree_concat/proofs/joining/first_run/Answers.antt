@@ -19,11 +19,11 @@ loop-n-preserved c = record {
   high =
       let some : 0 < length c.args.nodes.now = omega arith in
       let here : height (get_or c.args.nodes.now c.loop-n.n c.index-nodes-n.result) ≡ first_height c.args.nodes.now =
-          ap height (sym c.index-nodes-n.is) ∙ sym c.height.ensures.value ∙ c.if-height.true
-              ∙ c.height-in-loop-n.ensures.value
-          ∙ ap height c.index-nodes-0.is ∙ first_is c.args.nodes.now c.index-nodes-0.result some in
+      ap height (sym c.index-nodes-n.is) ∙ sym c.height.ensures.value ∙ c.if-height.true
+      ∙ c.height-in-loop-n.ensures.value
+      ∙ ap height c.index-nodes-0.is ∙ first_is c.args.nodes.now c.index-nodes-0.result some in
       rw add-one (high_more (first_height c.args.nodes.now) c.loop-n.n c.args.nodes.now c.index-nodes-n.result
-          (omega arith) c.loop-n.invariant.high here);
+      (omega arith) c.loop-n.invariant.high here);
 }
 
 pub returns-clause-high : goal.returns-clause-high
