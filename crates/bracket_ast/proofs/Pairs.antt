@@ -6,7 +6,7 @@ use Rattle.text_pos.specs.KindSet.{has_kind}
 use Rattle.text_pos.specs.Lengths.{plus}
 use Rattle.tree_defs.specs.Tree.{Tree, Bracket, depth, is_cut, misses}
 use Rattle.tree_defs.specs.Shape.{length_of, and_closer, Fits}
-use Rattle.bracket_ast.specs.Shapes.{Sound, SoundInside, ArePair, IsPair, IsInside, or_nothing, closer_length, pair_of}
+use Rattle.bracket_ast.specs.Shapes.{Sound, SoundInside, ArePair, IsInside, or_nothing, closer_length, pair_of}
 use Rattle.bracket_ast.specs.View.{Keeps}
 use Rattle.bracket_ast.specs.declared.node.Parts.TheVariants as parts
 use Rattle.bracket_ast.proofs.Sound.{pair_sound}

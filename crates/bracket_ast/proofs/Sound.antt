@@ -1,16 +1,15 @@
 -- What holds of a node's tree holds of a tree that is made of such nodes.
-use Rattle.std.proofs.Common.{◌≡◌, ℕ, ◌+◌, ◌*◌, ◌<◌, ◌≤◌, ◌^◌, ◌==◌, if◌then◌else◌, Bool, true, false, Option, Some}
-use Rattle.std.proofs.Common.{None, refl, arith, sym, ◌∙◌, subst, ap, inl, inr}
+use Rattle.std.proofs.Common.{◌≡◌, ℕ, ◌+◌, ◌<◌, ◌≤◌, ◌^◌, Option, Some}
+use Rattle.std.proofs.Common.{None, arith, sym, ◌∙◌, subst, inl, inr}
 use Rattle.std.proofs.lemmas.Bool.Decides.{nat_tests}
 use Rattle.std.proofs.lemmas.Grind.{pow_more}
 use Rattle.std.proofs.lemmas.Bool.{cases_order}
 use Rattle.std.proofs.Math.Nat.{pow-le-pow_right}
 use Rattle.text_pos.specs.declared.length.Length.{Length}
-use Rattle.text_pos.specs.declared.kinds.Kinds.{Kinds}
 use Rattle.text_pos.specs.Lengths.{plus}
-use Rattle.tree_defs.specs.Tree.{Tree, Nothing, Text, Bracket, Lone, Pair, Two, Three}
-use Rattle.tree_defs.specs.Shape.{length_of, and_closer, height, IsNode, IsEven, Fits, IsSome, room_in}
-use Rattle.bracket_ast.specs.Shapes.{Sound, SoundInside, ArePair, or_nothing, closer_length, pair_of, IsBracket}
+use Rattle.tree_defs.specs.Tree.{Tree, Bracket, Two, Three}
+use Rattle.tree_defs.specs.Shape.{length_of, and_closer, height, IsEven, Fits, IsSome, room_in}
+use Rattle.bracket_ast.specs.Shapes.{Sound, SoundInside, ArePair, or_nothing, closer_length, pair_of}
 
 -- ---- room
 pub some_room : (a : Length) → IsSome a → 1 ≤ room_in a

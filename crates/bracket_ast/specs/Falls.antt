@@ -1,12 +1,12 @@
 -- The parts of a node are smaller than the node.
-use Rattle.std.specs.Prelude.{◌≡◌, ℕ, ◌≤◌, max, Bool, List, [], ◌∷◌, Option, Some, None}
+use Rattle.std.specs.Prelude.{◌≡◌, ℕ, ◌≤◌, Bool, List, [], ◌∷◌, Option, Some, None}
 use Rattle.std.proofs.Common.{arith, refl}
 use Rattle.text_pos.specs.declared.length.Length.{Length}
 use Rattle.text_pos.specs.declared.kinds.Kinds.{Kinds}
-use Rattle.tree_defs.specs.Tree.{Tree, Nothing, Text, Bracket, Lone, Pair, Two, Three}
+use Rattle.tree_defs.specs.Tree.{Tree, Bracket}
 use Rattle.bracket_ast.specs.Weight.{weight}
 use Rattle.bracket_ast.specs.View.{made, IsMade}
-use Rattle.bracket_ast.specs.Shapes.{IsBracket, IsCloser, IsPair, IsList, pair_of, list_of}
+use Rattle.bracket_ast.specs.Shapes.{IsBracket, IsPair, IsList, pair_of, list_of}
 use Rattle.bracket_ast.specs.declared.node.Parts.{Parts}
 use Rattle.bracket_ast.specs.declared.node.Parts.TheVariants as parts
 use Rattle.bracket_ast.specs.declared.node.Node.TheDeep.{deep-Parts}

@@ -1,8 +1,8 @@
 -- What pairs and lists are made of.
-use Rattle.std.specs.Prelude.{◌≡◌, ℕ, ◌+◌, ◌<◌, ◌≤◌, ◌^◌, Bool, List, [], ◌∷◌, Option, Some, None}
+use Rattle.std.specs.Prelude.{◌≡◌, ℕ, ◌≤◌, ◌^◌, List, [], ◌∷◌, Option, Some, None}
 use Rattle.std.specs.Borrow.{Bor}
 use Rattle.text_pos.specs.declared.length.Length.{Length}
-use Rattle.tree_defs.specs.Tree.{Tree, Nothing, Text, Bracket, Lone, Pair, Two, Three, depth, is_cut, misses}
+use Rattle.tree_defs.specs.Tree.{Tree, Nothing, Bracket, Pair, Two, Three}
 use Rattle.tree_defs.specs.Shape.{length_of, height, IsNode, IsEven, Fits, room_in}
 
 abbrev pub or_nothing : Option Tree → Tree

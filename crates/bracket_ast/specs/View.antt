@@ -1,9 +1,9 @@
 -- What a node's fields are seen as, and what they keep.
-use Rattle.std.specs.Prelude.{◌≡◌, ℕ, ◌+◌, ◌≤◌, Bool, List, [], ◌∷◌, Option, Some, None}
+use Rattle.std.specs.Prelude.{◌≡◌, ℕ, Bool}
 use Rattle.text_pos.specs.declared.length.Length.{Length}
 use Rattle.text_pos.specs.declared.kinds.Kinds.{Kinds}
 use Rattle.text_pos.specs.KindSet.{has_kind}
-use Rattle.tree_defs.specs.Tree.{Tree, Nothing, Text, Bracket, Lone, Pair, Two, Three, depth, is_cut, misses}
+use Rattle.tree_defs.specs.Tree.{Tree, Text, Bracket, Lone, depth, is_cut, misses}
 use Rattle.tree_defs.specs.Shape.{length_of, height}
 use Rattle.bracket_ast.specs.Shapes.{pair_of, list_of, IsPair, IsList, Sound}
 use Rattle.bracket_ast.specs.declared.node.Inner.{Inner}

@@ -1,8 +1,8 @@
 -- A list and its children, and nodes of one height.
-use Rattle.std.proofs.Common.{◌≡◌, ℕ, zero, suc, ◌+◌, ◌<◌, ◌≤◌, List, [], ◌∷◌, ◌++◌, length, take, get_or, refl, sym}
+use Rattle.std.proofs.Common.{◌≡◌, ℕ, zero, suc, ◌+◌, ◌<◌, List, [], ◌∷◌, ◌++◌, length, take, get_or, refl, sym}
 use Rattle.std.proofs.Common.{ap, ◌∙◌, subst, arith, append_assoc}
-use Rattle.tree_defs.specs.Tree.{Tree, Nothing, Text, Bracket, Lone, Pair, Two, Three}
-use Rattle.tree_defs.specs.Shape.{height, leaves_of, all_leaves, IsEven}
+use Rattle.tree_defs.specs.Tree.{Tree, Two, Three}
+use Rattle.tree_defs.specs.Shape.{height, leaves_of, all_leaves}
 use Rattle.bracket_ast.specs.Shapes.{Sound}
 use Rattle.tree_concat.specs.Joined.{AllHigh, first_height}
 

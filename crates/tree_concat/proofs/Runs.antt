@@ -1,5 +1,5 @@
 -- Neighbours whose runs fit can be put into a list.
-use Rattle.std.proofs.Common.{◌≡◌, ◌+◌, List, [], ◌∷◌, ◌++◌, sym, ap, ◌∙◌, subst, append_assoc}
+use Rattle.std.proofs.Common.{◌++◌, sym, subst, append_assoc}
 use Rattle.text_pos.specs.Lengths.{plus}
 use Rattle.tree_defs.specs.Tree.{Tree, Two, Three}
 use Rattle.tree_defs.specs.Shape.{length_of, leaves_of, Fits, RunsFit}

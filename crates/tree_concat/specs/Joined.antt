@@ -1,8 +1,7 @@
 -- Nodes that are being joined.
-use Rattle.std.specs.Prelude.{◌≡◌, ℕ, List, [], ◌∷◌, ◌++◌, Option, Some, None}
-use Rattle.tree_defs.specs.Tree.{Tree, Nothing}
+use Rattle.std.specs.Prelude.{◌≡◌, ℕ, List, [], ◌∷◌, Option, Some, None}
+use Rattle.tree_defs.specs.Tree.{Tree}
 use Rattle.tree_defs.specs.Shape.{leaves_of, height}
-use Rattle.bracket_ast.specs.Shapes.{Sound}
 
 -- nodes of one height
 abbrev pub AllHigh : ℕ → List Tree → Type 0

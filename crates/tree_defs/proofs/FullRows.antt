@@ -1,6 +1,6 @@
 -- From the rows of a walk to whole rows.
-use Rattle.std.proofs.Common.{◌≡◌, ℕ, ◌+◌, ◌<◌, ◌≤◌, ◌==◌, nat_le, List, [], ◌∷◌, ◌++◌, length, Bool, true, false}
-use Rattle.std.proofs.Common.{cond, if◌then◌else◌, Option, Some, None, refl, sym, ap, ◌∙◌, subst, arith, append_assoc}
+use Rattle.std.proofs.Common.{◌≡◌, ℕ, ◌+◌, ◌<◌, ◌≤◌, ◌==◌, nat_le, List, [], ◌∷◌, ◌++◌, length, true, false}
+use Rattle.std.proofs.Common.{if◌then◌else◌, Option, Some, None, refl, sym, ap, ◌∙◌, subst, arith, append_assoc}
 use Rattle.std.proofs.Common.{append-nil}
 use Rattle.std.proofs.lemmas.Bool.Decides.{nat_tests}
 use Rattle.text_pos.specs.declared.length.Length.{Length}
@@ -9,12 +9,10 @@ use Rattle.text_pos.specs.declared.kinds.Kinds.{Kinds}
 use Rattle.text_pos.specs.Lengths.{plus}
 use Rattle.pairing_defs.specs.declared.Role.{Role}
 use Rattle.pairing_defs.specs.declared.Role.TheVariants.{Opener, Closer}
-use Rattle.pairing_defs.specs.declared.Mark.{Mark}
-use Rattle.pairing_defs.specs.declared.Row.{Row}
 use Rattle.pairing_defs.specs.Pairing.{Entry, Placed, Removal, of_kind, removal_by, removal_of, closer_of, inner_end}
 use Rattle.pairing_defs.specs.Pairing.{row_of, rows_from, paired, nothing_open, placed_from}
 use Rattle.tree_defs.specs.Items.{Items, end, text, lone, pair, unclosed, stray, rows_in, behind, Seen, opens, alone}
-use Rattle.tree_defs.specs.Items.{closes_kind, TreeRow, row_at, walk, items_of, Stands}
+use Rattle.tree_defs.specs.Items.{closes_kind, TreeRow, row_at, walk, items_of}
 use Rattle.tree_defs.specs.Reuse.{SeenAs, IsRead, AreRead, Walked}
 use Rattle.tree_defs.specs.Rows.{FullRow, place, full, tree_rows, IsFull, AreFull, start, RowLaw}
 use Rattle.tree_defs.proofs.Walk.{walks}

@@ -1,13 +1,10 @@
 -- The reuse law.
-use Rattle.std.proofs.Common.{◌≡◌, ℕ, ◌+◌, ◌≤◌, max, List, [], ◌∷◌, ◌++◌, length, map, Bool, true, false, IsTrue}
-use Rattle.std.proofs.Common.{refl, sym, ap, ◌∙◌, subst, arith}
-use Rattle.text_pos.specs.declared.length.Length.{Length}
-use Rattle.text_pos.specs.declared.kinds.Kinds.{Kinds}
-use Rattle.pairing_defs.specs.declared.Mark.{Mark}
-use Rattle.pairing_defs.specs.Pairing.{Entry, Open, placed_from, nothing_open}
-use Rattle.tree_defs.specs.Tree.{Tree, depth, Passes, CanBeReused}
-use Rattle.tree_defs.specs.Items.{Items, end, items_of, depth_of, walk, Stands}
-use Rattle.tree_defs.specs.Reuse.{Walked, AreRead, AreAmong, raised, Reused, ReuseLaw}
+use Rattle.std.proofs.Common.{◌≤◌, max, ◌++◌, length}
+use Rattle.std.proofs.Common.{refl, ap, ◌∙◌, subst, arith}
+use Rattle.pairing_defs.specs.Pairing.{placed_from, nothing_open}
+use Rattle.tree_defs.specs.Tree.{depth, Passes}
+use Rattle.tree_defs.specs.Items.{end, items_of, depth_of, Stands}
+use Rattle.tree_defs.specs.Reuse.{Walked, AreRead, ReuseLaw}
 use Rattle.tree_defs.proofs.Walk.{walks}
 use Rattle.tree_defs.proofs.Relevel.{relevels}
 use Rattle.tree_defs.proofs.Raise.{raised_walk}

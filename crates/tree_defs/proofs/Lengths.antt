@@ -1,12 +1,12 @@
 -- Lengths of trees one behind the other.
-use Rattle.std.proofs.Common.{◌≡◌, ℕ, ◌+◌, ◌<◌, ◌==◌, ◌^◌, if◌then◌else◌, List, [], ◌∷◌, ◌++◌, Option, Some, None}
+use Rattle.std.proofs.Common.{◌≡◌, List, [], ◌∷◌, ◌++◌}
 use Rattle.std.proofs.Common.{refl, sym, ap, ◌∙◌, subst, arith, append_assoc, append-nil}
 use Rattle.std.proofs.lemmas.Bool.Decides.{nat_tests}
 use Rattle.text_pos.specs.declared.length.Length.{Length}
 use Rattle.text_pos.specs.Lengths.{plus}
 use Rattle.tree_defs.specs.Tree.{Tree, Nothing, Text, Bracket, Lone, Pair, Two, Three}
 use Rattle.tree_defs.specs.Items.{Items, items_then}
-use Rattle.tree_defs.specs.Shape.{no_length, length_of, leaves_of, all_leaves, all_items, total, Fits, RunsFit, EndsFit}
+use Rattle.tree_defs.specs.Shape.{no_length, length_of, leaves_of, all_items, total, Fits, RunsFit, EndsFit}
 
 pub same_length : (a b : Length) → a.lines ≡ b.lines → a.cols ≡ b.cols → a ≡ b
 same_length a b lines cols = ap (λ x. record { lines = x; cols = a.cols }) lines

@@ -1,6 +1,6 @@
 -- Pairing the marks of items gives the rows of the walk, with the open entries as the pairs entered.
-use Rattle.std.proofs.Common.{◌≡◌, ℕ, ◌+◌, ◌<◌, ◌≤◌, ◌||◌, max, nat_le, List, [], ◌∷◌, ◌++◌, length, Bool, true}
-use Rattle.std.proofs.Common.{false, IsTrue, Option, Some, None, refl, sym, ap, ◌∙◌, subst, arith, append_assoc}
+use Rattle.std.proofs.Common.{◌≡◌, ℕ, ◌+◌, ◌<◌, ◌≤◌, ◌||◌, nat_le, List, [], ◌∷◌, ◌++◌, length, Bool, true}
+use Rattle.std.proofs.Common.{false, Option, Some, None, refl, sym, ap, ◌∙◌, subst, arith, append_assoc}
 use Rattle.std.proofs.lemmas.Bool.Decides.{nat_tests}
 use Rattle.text_pos.specs.declared.length.Length.{Length}
 use Rattle.text_pos.specs.declared.kinds.Kinds.{Kinds}
@@ -9,9 +9,9 @@ use Rattle.text_pos.specs.Lengths.{plus}
 use Rattle.pairing_defs.specs.declared.Role.{Role}
 use Rattle.pairing_defs.specs.declared.Role.TheVariants.{Opener, Closer}
 use Rattle.pairing_defs.specs.declared.Mark.{Mark}
-use Rattle.pairing_defs.specs.Pairing.{Entry, Open, Placed, of_kind, from_last, placed_from, open_after}
-use Rattle.tree_defs.specs.Items.{Items, end, text, lone, pair, unclosed, stray, depth_of, cut_in, missed_in, rows_in}
-use Rattle.tree_defs.specs.Items.{behind, left_by, TreeRow, Seen, opens, alone, closes_kind, row_at, walk, IsAt}
+use Rattle.pairing_defs.specs.Pairing.{Entry, Open, of_kind, from_last, placed_from, open_after}
+use Rattle.tree_defs.specs.Items.{Items, end, text, lone, pair, unclosed, stray, missed_in, rows_in}
+use Rattle.tree_defs.specs.Items.{behind, left_by, Seen, opens, alone, closes_kind, row_at, walk, IsAt}
 use Rattle.tree_defs.specs.Items.{NoneIn, IsOpener, AreOpeners, AreCut, Stands}
 use Rattle.tree_defs.specs.Reuse.{SeenAs, IsRead, AreRead, Clear, Walked}
 use Rattle.tree_defs.proofs.Steps.{placed_append, open_append, read_append, none_taken, taken_behind, opener_placed}

@@ -1,9 +1,7 @@
 -- Letters of one line have runs that fit.
-use Rattle.std.proofs.Common.{◌≡◌, ℕ, zero, suc, ◌+◌, ◌<◌, ◌^◌, List, [], ◌∷◌, ◌++◌, replicate, refl, sym, ap, ◌∙◌}
-use Rattle.std.proofs.Common.{subst, arith}
-use Rattle.text_pos.specs.declared.length.Length.{Length}
-use Rattle.tree_defs.specs.Tree.{Tree, Text}
-use Rattle.tree_defs.specs.Shape.{no_length, leaves_of, all_leaves, Fits, EndsFit, RunsFit}
+use Rattle.std.proofs.Common.{◌≡◌, ℕ, zero, suc, ◌+◌, ◌<◌, ◌^◌, ◌∷◌, replicate, refl, ap}
+use Rattle.std.proofs.Common.{arith}
+use Rattle.tree_defs.specs.Shape.{no_length, all_leaves, EndsFit, RunsFit}
 use Rattle.tree_defs.proofs.Lengths.{ends_runs}
 use Rattle.tree_tests.specs.Columns.{letter}
 

@@ -1,4 +1,4 @@
-use Rattle.std.proofs.Common.{◌≤◌, arith}
+use Rattle.std.proofs.Common.{arith}
 use Rattle.bracket_ast.proofs.node.one_higher.Goals as goal
 use Rattle.bracket_ast.proofs.Sound.{low}
 

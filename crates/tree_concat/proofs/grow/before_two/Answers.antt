@@ -1,10 +1,9 @@
-use Rattle.std.proofs.Common.{◌≡◌, ℕ, ◌+◌, ◌<◌, ◌≤◌, List, [], ◌∷◌, ◌++◌, Option, Some, None, refl, sym, ap, ◌∙◌}
-use Rattle.std.proofs.Common.{subst, arith, append_assoc}
+use Rattle.std.proofs.Common.{[], ◌++◌, Option, sym}
+use Rattle.std.proofs.Common.{subst, append_assoc}
 use Rattle.tree_defs.specs.Tree.{Tree}
-use Rattle.tree_defs.specs.Shape.{height, leaves_of, all_leaves, RunsFit}
+use Rattle.tree_defs.specs.Shape.{leaves_of, RunsFit}
 use Rattle.tree_concat.specs.Joined.{some_leaves}
-use Rattle.tree_concat.proofs.Children.{TwoParts, ThreeParts, two_parts, three_parts}
-use Rattle.tree_defs.proofs.Lengths.{runs_of, front_runs, back_runs}
+use Rattle.tree_defs.proofs.Lengths.{runs_of, back_runs}
 use Rattle.tree_concat.proofs.grow.before_two.Goals as goal
 
 pub two-requires-clause-fit : goal.two-requires-clause-fit

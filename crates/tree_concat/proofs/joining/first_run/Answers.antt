@@ -1,10 +1,9 @@
-use Rattle.std.proofs.Common.{◌≡◌, ℕ, ◌+◌, ◌*◌, ◌<◌, ◌≤◌, List, [], ◌∷◌, ◌++◌, length, Option, Some, None, refl, sym}
-use Rattle.std.proofs.Common.{ap, ◌∙◌, subst, arith, append_assoc, append-nil, length-append}
+use Rattle.std.proofs.Common.{◌≡◌, ◌<◌, List, [], ◌∷◌, length, refl, sym}
+use Rattle.std.proofs.Common.{ap, ◌∙◌, arith}
 use Rattle.tree_defs.specs.Tree.{Tree}
-use Rattle.tree_defs.specs.Shape.{height, leaves_of, all_leaves, RunsFit}
-use Rattle.tree_concat.specs.Joined.{some_leaves, AllHigh, first_height}
-use Rattle.tree_defs.proofs.Lengths.{runs_of, front_runs, back_runs}
-use Rattle.std.proofs.Common.{add-one, take, get_or}
+use Rattle.tree_defs.specs.Shape.{height}
+use Rattle.tree_concat.specs.Joined.{first_height}
+use Rattle.std.proofs.Common.{add-one, get_or}
 use Rattle.tree_concat.proofs.Children.{high_more, high_front}
 use Rattle.tree_concat.proofs.joining.first_run.Goals as goal
 

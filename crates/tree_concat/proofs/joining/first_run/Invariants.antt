@@ -1,4 +1,4 @@
-use Rattle.std.proofs.Common.{◌≡◌, ◌<◌, ◌≤◌, ◌-◌, length, take}
+use Rattle.std.proofs.Common.{◌<◌, ◌≤◌, ◌-◌, length, take}
 use Rattle.tree_concat.specs.Joined.{AllHigh, first_height}
 use Rattle.tree_concat.proofs.joining.first_run.Given as goal
 

@@ -1,9 +1,9 @@
-use Rattle.std.proofs.Common.{◌≡◌, ℕ, ◌+◌, ◌*◌, ◌<◌, ◌≤◌, List, [], ◌∷◌, ◌++◌, length, Option, Some, None, refl, sym}
+use Rattle.std.proofs.Common.{◌≡◌, ℕ, ◌+◌, ◌<◌, List, [], ◌∷◌, ◌++◌, length, sym}
 use Rattle.std.proofs.Common.{ap, ◌∙◌, subst, arith, append_assoc, append-nil, length-append}
 use Rattle.tree_defs.specs.Tree.{Tree}
-use Rattle.tree_defs.specs.Shape.{height, leaves_of, all_leaves, RunsFit}
-use Rattle.tree_concat.specs.Joined.{some_leaves, AllHigh, first_height}
-use Rattle.tree_defs.proofs.Lengths.{runs_of, front_runs, back_runs}
+use Rattle.tree_defs.specs.Shape.{leaves_of, all_leaves, RunsFit}
+use Rattle.tree_concat.specs.Joined.{AllHigh, first_height}
+use Rattle.tree_defs.proofs.Lengths.{runs_of, back_runs}
 use Rattle.tree_concat.proofs.Children.{high_append, leaves_append, first_of}
 use Rattle.tree_concat.proofs.level.lists_of.Goals as goal
 

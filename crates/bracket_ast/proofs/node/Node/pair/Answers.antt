@@ -1,8 +1,7 @@
-use Rattle.std.proofs.Common.{◌≡◌, ℕ, ◌+◌, Option, sym, ap, ◌∙◌, subst, refl}
+use Rattle.std.proofs.Common.{◌≡◌, ◌+◌, ap, ◌∙◌}
 use Rattle.text_pos.specs.Lengths.{plus}
-use Rattle.tree_defs.specs.Tree.{Tree, depth, is_cut, misses}
-use Rattle.tree_defs.specs.Shape.{length_of, and_closer, Fits}
-use Rattle.bracket_ast.specs.Shapes.{Sound, SoundInside, ArePair, or_nothing, closer_length, pair_of, nows}
+use Rattle.tree_defs.specs.Shape.{length_of, and_closer}
+use Rattle.bracket_ast.specs.Shapes.{or_nothing, closer_length, nows}
 use Rattle.bracket_ast.proofs.Pairs.{pair_keeps}
 use Rattle.bracket_ast.proofs.node.Node.pair.Goals as goal
 
