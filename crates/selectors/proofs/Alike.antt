@@ -1,11 +1,11 @@
 -- Reading into signs goes as the definition's reading does, character by character.
 use Rattle.std.proofs.Common.{◌≡◌, ℕ, zero, suc, ◌+◌, ◌%◌, ◌==◌, nat_lt, Bool, true, false, ◌&&◌, ◌||◌, not, cond}
-use Rattle.std.proofs.Common.{List, [], ◌∷◌, ◌++◌, length, map, sum_by, Option, Some, None, Result, Ok, Err, ℤ, pos}
+use Rattle.std.proofs.Common.{List, [], ◌∷◌, ◌++◌, map, sum_by, Option, Some, None, Result, Err, ℤ, pos}
 use Rattle.std.proofs.Common.{refl, sym, ◌∙◌, ap, subst, arith}
 use Rattle.std.proofs.lemmas.List.Sums.{sum_by-cons}
 use Rattle.scope_defs.specs.declared.limits.TheConstants.{MOST_NESTED}
 use Rattle.scope_defs.specs.Scopes.{Name, Scopes}
-use Rattle.scope_defs.specs.Selectors.{Matcher, Path, Not, Both, Either, Entry, holds, path_holds}
+use Rattle.scope_defs.specs.Selectors.{Matcher, Path, Not, Entry, holds, path_holds}
 use Rattle.scope_defs.specs.SelectorSyntax as syntax
 use Rattle.scope_defs.specs.SelectorSyntax.{Reading, Level, Sign, Space, Letter, Minus, Opens, Closes, Bar, Comma}
 use Rattle.scope_defs.specs.SelectorSyntax.{Other, sign_of, negated, and_also, or_also, all_of, whole, with_operand}
@@ -17,14 +17,13 @@ use Rattle.selectors.specs.declared.sign.Sign.TheVariants as kept
 use Rattle.selectors.specs.declared.reader.Reader.{Reader}
 use Rattle.selectors.specs.declared.reader.Stand.{Stand}
 use Rattle.selectors.specs.declared.reader.Stand.TheVariants as stands
-use Rattle.selectors.specs.declared.verdict.Verdict.{Verdict}
 use Rattle.selectors.specs.declared.verdict.Verdict.TheVariants.{Holds}
 use Rattle.selectors.specs.Machine as machine
 use Rattle.selectors.specs.Machine.{is_even}
 use Rattle.selectors.specs.Meanings.{IsKept, AreKept, ReadAlike}
-use Rattle.selectors.specs.Truths.{Truth, some_holds, all_hold, truth, turned, with_test, GoOn, Tells}
-use Rattle.selectors.specs.Verdicts.{run, behind, is_true}
-use Rattle.selectors.proofs.Passing.{fresh, value, next, run-snoc, path_tells, opens_tells, next_tells, closes_tells}
+use Rattle.selectors.specs.Truths.{Truth, some_holds, all_hold, truth, turned, with_test, Tells}
+use Rattle.selectors.specs.Verdicts.{run, behind}
+use Rattle.selectors.proofs.Passing.{fresh, value, run-snoc, path_tells, opens_tells, next_tells, closes_tells}
 use Rattle.selectors.proofs.Passing.{told}
 
 -- minus signs

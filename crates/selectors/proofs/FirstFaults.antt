@@ -1,7 +1,7 @@
 -- A selector is refused at the first character that no selector has there.
-use Rattle.std.proofs.Common.{◌≡◌, ℕ, zero, suc, ◌+◌, ◌<◌, ◌≤◌, ◌⊎◌, inl, inr, Bool, true, false, cond, List, [], ◌∷◌}
-use Rattle.std.proofs.Common.{◌++◌, length, take, get_or, replicate, Option, Some, None, Result, Ok, Err, IsOk}
-use Rattle.std.proofs.Common.{IsTrue, ℤ, refl, sym, ◌∙◌, ap, subst, append_assoc, arith, add-one}
+use Rattle.std.proofs.Common.{◌≡◌, ℕ, suc, ◌+◌, ◌<◌, ◌≤◌, ◌⊎◌, inl, inr, Bool, true, false, cond, List, [], ◌∷◌}
+use Rattle.std.proofs.Common.{◌++◌, length, take, get_or, Option, Some, None, Result, Ok, Err, IsOk}
+use Rattle.std.proofs.Common.{IsTrue, ℤ, refl, sym, ◌∙◌, ap, subst, append_assoc, arith}
 use Rattle.std.proofs.lemmas.Bool.{false≢true}
 use Rattle.std.proofs.Math.Seq.{take-suc, take-length}
 use Rattle.scope_defs.specs.declared.limits.TheConstants.{MOST_NESTED}
@@ -9,7 +9,7 @@ use Rattle.scope_defs.specs.Selectors.{Matcher, Path, Entry}
 use Rattle.scope_defs.specs.SelectorSyntax as syntax
 use Rattle.scope_defs.specs.SelectorSyntax.{Reading, Level, nothing, step, at_end, on_step, operand_of, is_too_deep}
 use Rattle.scope_defs.specs.SelectorSyntax.{whole, with_operand, read_on, read_selector}
-use Rattle.selectors.specs.RefusalLaws.{goes_on, after, MayEnd, IsSelector, BeginsSelector, IsDeepAfter}
+use Rattle.selectors.specs.RefusalLaws.{goes_on, after, MayEnd, BeginsSelector, IsDeepAfter}
 use Rattle.selectors.specs.RefusalLaws.{BeginsTooDeep, IsFirstFault}
 
 -- one text behind another

@@ -1,13 +1,10 @@
 -- The entries that a selector keeps are those of its text.
-use Rattle.std.proofs.Common.{◌≡◌, ℕ, zero, suc, ◌+◌, ◌<◌, List, [], ◌∷◌, length, get_or, Option, Some, None, Result}
+use Rattle.std.proofs.Common.{◌≡◌, ℕ, zero, suc, ◌<◌, List, [], ◌∷◌, length, get_or, Result}
 use Rattle.std.proofs.Common.{Ok, Err, IsOk, unwrap_or, slice_get, refl, sym, ◌∙◌, ap, subst, arith}
 use Rattle.std.specs.Result.{result_unwrap_or}
-use Rattle.scope_defs.specs.Scopes.{Scopes}
-use Rattle.scope_defs.specs.Selectors.{Entry, holds}
+use Rattle.scope_defs.specs.Selectors.{Entry}
 use Rattle.scope_defs.specs.SelectorSyntax.{read_selector, entries_of, no_entry, entry_at}
 use Rattle.selectors.specs.declared.sign.KeptEntry.{KeptEntry}
-use Rattle.selectors.specs.declared.verdict.Verdict.TheVariants.{Holds}
-use Rattle.selectors.specs.Verdicts.{run, is_true}
 use Rattle.selectors.specs.Machine.{read_kept}
 use Rattle.selectors.specs.Meanings.{IsKept, AreKept, ReadAlike}
 use Rattle.selectors.proofs.Alike.{texts_read_alike}

@@ -1,9 +1,9 @@
 -- The place where a text is refused as a selector, told without the limit on nesting and without an order of reading:
 -- some selector goes on from what stands before it, and none from that and the character there.
 use Rattle.std.specs.Prelude.{◌≡◌, ℕ, ◌+◌, ◌<◌, ◌≤◌, ◌⊎◌, List, [], ◌∷◌, ◌++◌, length, take, get_or, IsTrue, IsOk}
-use Rattle.std.specs.Prelude.{Option, Some, None, Err}
+use Rattle.std.specs.Prelude.{Option, Some, None}
 use Rattle.scope_defs.specs.declared.limits.TheConstants.{MOST_NESTED}
-use Rattle.scope_defs.specs.SelectorSyntax.{Reading, nothing, step, at_end, operand_of, is_too_deep, read_selector}
+use Rattle.scope_defs.specs.SelectorSyntax.{Reading, nothing, step, at_end, operand_of, is_too_deep}
 
 abbrev pub goes_on : Option Reading → (Reading → Option Reading) → Option Reading
 goes_on None next = None

@@ -1,6 +1,6 @@
 -- What the levels of a selector that is read say of scopes so far, and which verdict that is.
-use Rattle.std.specs.Prelude.{◌≡◌, ℕ, zero, suc, ◌&&◌, ◌||◌, not, Bool, true, false, if◌then◌else◌, List, [], ◌∷◌}
-use Rattle.std.specs.Prelude.{map, Option, Some, None}
+use Rattle.std.specs.Prelude.{◌≡◌, ℕ, zero, suc, ◌&&◌, not, Bool, true, false, if◌then◌else◌, List, [], ◌∷◌}
+use Rattle.std.specs.Prelude.{Option, Some, None}
 use Rattle.scope_defs.specs.Scopes.{Scopes}
 use Rattle.scope_defs.specs.Selectors.{Matcher, holds}
 use Rattle.scope_defs.specs.SelectorSyntax.{Level}

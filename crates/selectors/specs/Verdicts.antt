@@ -1,5 +1,5 @@
 -- How the signs of an entry are told without a stack: what can't change the verdict any more is passed over.
-use Rattle.std.specs.Prelude.{◌≡◌, ℕ, zero, suc, ◌+◌, ◌-◌, ◌==◌, Bool, true, false, List, [], ◌∷◌, if◌then◌else◌}
+use Rattle.std.specs.Prelude.{ℕ, ◌+◌, ◌-◌, ◌==◌, Bool, true, false, List, [], ◌∷◌, if◌then◌else◌}
 use Rattle.scope_defs.specs.Scopes.{Scopes}
 use Rattle.scope_defs.specs.Selectors.{path_holds}
 use Rattle.selectors.specs.declared.sign.Sign.{Sign}

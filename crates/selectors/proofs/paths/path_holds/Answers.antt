@@ -1,4 +1,4 @@
-use Rattle.std.proofs.Common.{false, length, take, reverse, sym, ◌∙◌, ap, arith}
+use Rattle.std.proofs.Common.{false, take, reverse, sym, ◌∙◌, ap, arith}
 use Rattle.std.proofs.Math.Seq.{take-length}
 use Rattle.scope_defs.specs.Scopes.{Scopes}
 use Rattle.selectors.proofs.FoundBack.{first_found, found_back, one_more, at_front, same_test}
