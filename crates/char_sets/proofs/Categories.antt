@@ -1,5 +1,6 @@
 -- Sets of categories as the bits of their numbers.
-use Rattle.std.proofs.Common.{◌≡◌, ℕ, ◌<◌, ◌*◌, ◌%◌, ◌^◌, inl, inr, lt-ltb, ap₂, subst, ◌||◌, ◌&&◌, ◌==◌, nat_lt, Bool, refl, sym, ap, ◌∙◌}
+use Rattle.std.proofs.Common.{◌≡◌, ℕ, ◌<◌, ◌*◌, ◌%◌, ◌^◌, inl, inr, lt-ltb, ap₂, subst, ◌||◌, ◌&&◌, ◌==◌, nat_lt}
+use Rattle.std.proofs.Common.{Bool, refl, sym, ap, ◌∙◌}
 use Rattle.std.specs.Bool.{beq}
 use Rattle.std.specs.Int.{bit_at}
 use Rattle.std.proofs.Math.Bool.{and-false}
@@ -13,10 +14,12 @@ use Rattle.ucd_table.proofs.Facts.{Stepped-below, same_from_beq}
 use Rattle.ucd_category.specs.GeneralCategory.{general_category, general_category_eq}
 use Rattle.ucd_category.specs.GeneralCategoryGroup.{in_group}
 use Rattle.ucd_category.specs.declared.GeneralCategory.{GeneralCategory}
-use Rattle.ucd_category.specs.declared.GeneralCategory.TheVariants.{UppercaseLetter, LowercaseLetter, DecimalNumber, SpaceSeparator, Control}
+use Rattle.ucd_category.specs.declared.GeneralCategory.TheVariants.{UppercaseLetter, LowercaseLetter, DecimalNumber}
+use Rattle.ucd_category.specs.declared.GeneralCategory.TheVariants.{SpaceSeparator, Control}
 use Rattle.ucd_category.specs.declared.GeneralCategoryGroup.TheVariants as group
 use Rattle.ucd_category.proofs.GeneralCategoryLemmas.{general_category_stepped}
-use Rattle.char_sets.specs.Named.{is_word, is_word_category, is_alpha_category, is_graph_category, has_category, has_number}
+use Rattle.char_sets.specs.Named.{is_word, is_word_category, is_alpha_category, is_graph_category, has_category}
+use Rattle.char_sets.specs.Named.{has_number}
 
 -- the steps of the table, for a proof by computation
 unfoldable is_word_stepped : Stepped is_word
@@ -40,7 +43,8 @@ pub alpha_numbers : (g : GeneralCategory) → has_category 255 g ≡ is_alpha_ca
 alpha_numbers UppercaseLetter = refl
 alpha_numbers _ = refl
 
-pub alnum_numbers : (g : GeneralCategory) → has_category 511 g ≡ (is_alpha_category g || general_category_eq g DecimalNumber)
+pub alnum_numbers : (g : GeneralCategory) → has_category 511 g
+    ≡ (is_alpha_category g || general_category_eq g DecimalNumber)
 alnum_numbers UppercaseLetter = refl
 alnum_numbers _ = refl
 

@@ -1,5 +1,6 @@
 -- A set that is read off from one stretch of codes to the next.
-use Rattle.std.proofs.Common.{◌≡◌, ℕ, ◌-◌, ◌<◌, ◌≤◌, Bool, true, false, ◌&&◌, ◌||◌, not, nat_le, List, [], ◌∷◌, ◌++◌, refl, sym, ap, subst, ◌∙◌, arith, inl, inr, le-leb, lt-ltb, le-ltb}
+use Rattle.std.proofs.Common.{◌≡◌, ℕ, ◌-◌, ◌<◌, ◌≤◌, Bool, true, false, ◌&&◌, ◌||◌, not, nat_le, List, [], ◌∷◌, ◌++◌}
+use Rattle.std.proofs.Common.{refl, sym, ap, subst, ◌∙◌, arith, inl, inr, le-leb, lt-ltb, le-ltb}
 use Rattle.std.proofs.Math.Bool.{or-true, or-false, and-true}
 use Rattle.std.proofs.lemmas.Bool.{cases_lt, lt-leb}
 use Rattle.std.proofs.lemmas.List.Folds.{list_any-append}
@@ -30,7 +31,8 @@ Joined-start p = record {
 }
 
 -- a stretch of members
-pub Joined-more : (ranges : List CharRange) (start at end : ℕ) (p : ℕ → Bool) → Joined ranges start at p → at < end → end ≤ 1_114_112 → ((c : ℕ) → at ≤ c → c < end → p c ≡ true) → Joined ranges start end p
+pub Joined-more : (ranges : List CharRange) (start at end : ℕ) (p : ℕ → Bool) → Joined ranges start at p → at < end
+    → end ≤ 1_114_112 → ((c : ℕ) → at ≤ c → c < end → p c ≡ true) → Joined ranges start end p
 Joined-more ranges start at end p h further within all =
     let started = h.started in
     record {
@@ -48,7 +50,8 @@ Joined-more ranges start at end p h further within all =
     }
 
 -- the range that was open, written
-Joined-written : (ranges : List CharRange) (start at : ℕ) (p : ℕ → Bool) → Joined ranges start at p → start < at → Joined (ranges ++ record { first = start; last = at - 1 } ∷ []) at at p
+Joined-written : (ranges : List CharRange) (start at : ℕ) (p : ℕ → Bool) → Joined ranges start at p → start < at
+    → Joined (ranges ++ record { first = start; last = at - 1 } ∷ []) at at p
 Joined-written ranges start at p h opened =
     let within = h.within in
     let r : CharRange = record { first = start; last = at - 1 } in
@@ -70,7 +73,8 @@ Joined-written ranges start at p h opened =
     }
 
 -- the range that was open, if any, written
-pub Joined-closed : (ranges : List CharRange) (start at : ℕ) (p : ℕ → Bool) → Joined ranges start at p → Joined (closed ranges start at) at at p
+pub Joined-closed : (ranges : List CharRange) (start at : ℕ) (p : ℕ → Bool) → Joined ranges start at p
+    → Joined (closed ranges start at) at at p
 unfolding closed
 Joined-closed ranges start at p h =
     let started = h.started in
@@ -82,7 +86,8 @@ Joined-closed ranges start at p h =
     ]
 
 -- a stretch of others, where no range is open
-pub Joined-gap : (ranges : List CharRange) (at end : ℕ) (p : ℕ → Bool) → Joined ranges at at p → at < end → end ≤ 1_114_112 → ((c : ℕ) → at ≤ c → c < end → p c ≡ false) → Joined ranges end end p
+pub Joined-gap : (ranges : List CharRange) (at end : ℕ) (p : ℕ → Bool) → Joined ranges at at p → at < end
+    → end ≤ 1_114_112 → ((c : ℕ) → at ≤ c → c < end → p c ≡ false) → Joined ranges end end p
 Joined-gap ranges at end p h further within none =
     let before = h.before in
     record {
@@ -94,7 +99,8 @@ Joined-gap ranges at end p h further within none =
           let not_open : (in_set ranges c || nat_le end c) ≡ in_set ranges c =
           ap (λ b. in_set ranges c || b) (lt-leb end c lt) ∙ or-false (in_set ranges c) in
           elim (cases_lt c at) [
-            | inl below ↦ h.members c below ∙ ap (λ b. in_set ranges c || b) (lt-leb at c below) ∙ or-false (in_set ranges c) ∙ sym not_open
+            | inl below ↦ h.members c below ∙ ap (λ b. in_set ranges c || b) (lt-leb at c below)
+                ∙ or-false (in_set ranges c) ∙ sym not_open
             | inr above ↦
                 let late : after_all 0 ranges ≤ c = omega arith in
                 none c above lt ∙ sym (not_open ∙ in_set-after 0 ranges c h.rising late)
@@ -102,7 +108,8 @@ Joined-gap ranges at end p h further within none =
     }
 
 -- where the place is the end of all codes and no range is open, the ranges are the set
-pub Joined-done : (ranges : List CharRange) (at : ℕ) (p : ℕ → Bool) → Joined ranges at at p → 1_114_112 ≤ at → IsSetOf ranges p
+pub Joined-done : (ranges : List CharRange) (at : ℕ) (p : ℕ → Bool) → Joined ranges at at p → 1_114_112 ≤ at
+    → IsSetOf ranges p
 Joined-done ranges at p h ended c lt =
     let early : c < at = omega arith in
     sym (h.members c early ∙ ap (λ b. in_set ranges c || b) (lt-leb at c early) ∙ or-false (in_set ranges c))

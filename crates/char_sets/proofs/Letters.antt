@@ -1,11 +1,13 @@
 -- Characters that pass a test, gathered one after the other.
-use Rattle.std.proofs.Common.{◌≡◌, ℕ, ◌+◌, ◌<◌, ◌≤◌, Bool, true, false, ◌||◌, ◌&&◌, not, nat_le, List, [], ◌∷◌, ◌++◌, refl, sym, ap, subst, ◌∙◌, arith, inl, inr, le_refl}
+use Rattle.std.proofs.Common.{◌≡◌, ℕ, ◌+◌, ◌<◌, ◌≤◌, Bool, true, false, ◌||◌, ◌&&◌, not, nat_le, List, [], ◌∷◌, ◌++◌}
+use Rattle.std.proofs.Common.{refl, sym, ap, subst, ◌∙◌, arith, inl, inr, le_refl}
 use Rattle.std.proofs.lemmas.Bool.{and_right, cases_lt, lt-leb}
 use Rattle.std.proofs.lemmas.List.Folds.{list_any-append}
 use Rattle.char_sets.specs.Ranges.{in_range, in_set, rises, IsSetOf}
 use Rattle.char_sets.specs.Case.{other_case, is_missing, in_either_case}
 use Rattle.char_sets.specs.declared.char_set.CharRange.{CharRange}
-use Rattle.char_sets.proofs.Rising.{after_all, after_all-nil, after_all-append, in_set-after, rises-append, rises-nil, in_range-below, in_range-inside}
+use Rattle.char_sets.proofs.Rising.{after_all, after_all-nil, after_all-append, in_set-after, rises-append, rises-nil}
+use Rattle.char_sets.proofs.Rising.{in_range-below, in_range-inside}
 use Rattle.std.proofs.Math.Bool.{or-true, or-false}
 
 -- the ranges have those below the code
@@ -14,7 +16,8 @@ pub record Letters (out : List CharRange) (code : ℕ) (p : ℕ → Bool) : Type
   pub before : after_all 0 out ≤ code
   pub members : (c : ℕ) → c < code → in_set out c ≡ p c
 
-pub Letters-skip : (out : List CharRange) (code : ℕ) (p : ℕ → Bool) → Letters out code p → p code ≡ false → Letters out (code + 1) p
+pub Letters-skip : (out : List CharRange) (code : ℕ) (p : ℕ → Bool) → Letters out code p → p code ≡ false
+    → Letters out (code + 1) p
 Letters-skip out code p h none =
     let before = h.before in
     record {
@@ -29,7 +32,8 @@ Letters-skip out code p h none =
           ];
     }
 
-pub Letters-push : (out : List CharRange) (code : ℕ) (p : ℕ → Bool) → Letters out code p → code < 128 → p code ≡ true → Letters (out ++ record { first = code; last = code } ∷ []) (code + 1) p
+pub Letters-push : (out : List CharRange) (code : ℕ) (p : ℕ → Bool) → Letters out code p → code < 128 → p code ≡ true
+    → Letters (out ++ record { first = code; last = code } ∷ []) (code + 1) p
 Letters-push out code p h ascii some =
     let r : CharRange = record { first = code; last = code } in
     let after = after_all-append 0 out r in
@@ -40,7 +44,8 @@ Letters-push out code p h ascii some =
           list_any-append (in_range c) out (r ∷ [])
           ∙ ap (λ b. in_set out c || b) (or-false (in_range c r))
           ∙ elim (cases_lt c code) [
-            | inl below ↦ ap (λ b. in_set out c || b) (in_range-below c r below) ∙ or-false (in_set out c) ∙ h.members c below
+            | inl below ↦ ap (λ b. in_set out c || b) (in_range-below c r below) ∙ or-false (in_set out c)
+                ∙ h.members c below
             | inr above ↦
                 let low : code ≤ c = above in
                 let high : c ≤ code = omega arith in
@@ -66,7 +71,11 @@ same-below c lt =
 same-above : (c : ℕ) → 122 < c → other_case c ≡ c
 same-above c lt =
     let above : 90 < c = omega arith in
-    rw (and_right (nat_le 65 c) (nat_le c 90) (lt-leb c 90 above), and_right (nat_le 97 c) (nat_le c 122) (lt-leb c 122 lt)) refl
+    rw (
+      and_right (nat_le 65 c) (nat_le c 90) (lt-leb c 90 above),
+      and_right (nat_le 97 c) (nat_le c 122)
+          (lt-leb c 122 lt),
+    ) refl
 
 -- no letter stands below the first
 pub Letters-start : (set : List CharRange) → Letters [] 65 (is_missing set)
@@ -77,7 +86,8 @@ Letters-start set = record {
 }
 
 -- nor behind the last
-pub Letters-done : (out : List CharRange) (code : ℕ) (set : List CharRange) → Letters out code (is_missing set) → 123 ≤ code → IsSetOf out (is_missing set)
+pub Letters-done : (out : List CharRange) (code : ℕ) (set : List CharRange) → Letters out code (is_missing set)
+    → 123 ≤ code → IsSetOf out (is_missing set)
 Letters-done out code set h ended c lt =
     elim (cases_lt c code) [
       | inl below ↦ h.members c below

@@ -1,5 +1,7 @@
 -- Ranges that rise.
-use Rattle.std.proofs.Common.{◌≡◌, ℕ, zero, suc, ◌+◌, ◌<◌, ◌≤◌, true, false, ◌&&◌, nat_le, List, [], ◌∷◌, ◌++◌, length, drop, get_or, refl, sym, ap, ◌∙◌, arith, leb-true, le-leb, not-suc-le-zero, le_of_suc-le-suc, le_refl, add-one, drop-cons}
+use Rattle.std.proofs.Common.{◌≡◌, ℕ, zero, suc, ◌+◌, ◌<◌, ◌≤◌, true, false, ◌&&◌, nat_le, List, [], ◌∷◌, ◌++◌}
+use Rattle.std.proofs.Common.{length, drop, get_or, refl, sym, ap, ◌∙◌, arith, leb-true, le-leb, not-suc-le-zero}
+use Rattle.std.proofs.Common.{le_of_suc-le-suc, le_refl, add-one, drop-cons}
 use Rattle.std.proofs.lemmas.Bool.{and_parts, and_left, and_right, lt-leb}
 use Rattle.char_sets.specs.Ranges.{in_range, in_set, is_range_from, rises}
 use Rattle.char_sets.specs.declared.char_set.CharRange.{CharRange}
@@ -52,7 +54,8 @@ in_set-before n (r ∷ rs) c h lt =
     rw (in_range-below c r (omega arith)) (in_set-before (r.last + 1) rs c parts.rest (omega arith))
 
 -- each range ends at the first place or after it
-pub last-above : (n : ℕ) (rs : List CharRange) (k : ℕ) (d : CharRange) → rises n rs ≡ true → k < length rs → n ≤ (get_or rs k d).last
+pub last-above : (n : ℕ) (rs : List CharRange) (k : ℕ) (d : CharRange) → rises n rs ≡ true → k < length rs
+    → n ≤ (get_or rs k d).last
 last-above n [] k d h lt = absurd (not-suc-le-zero lt)
 last-above n (r ∷ rs) zero d h lt =
     let parts = rises-parts n r rs h in
@@ -67,7 +70,8 @@ last-above n (r ∷ rs) (suc k) d h lt =
     omega arith
 
 -- past the end of a range, the ranges up to it don't count
-pub in_set-past : (n : ℕ) (rs : List CharRange) (k c : ℕ) (d : CharRange) → rises n rs ≡ true → k < length rs → (get_or rs k d).last < c → in_set rs c ≡ in_set (drop (suc k) rs) c
+pub in_set-past : (n : ℕ) (rs : List CharRange) (k c : ℕ) (d : CharRange) → rises n rs ≡ true → k < length rs
+    → (get_or rs k d).last < c → in_set rs c ≡ in_set (drop (suc k) rs) c
 in_set-past n [] k c d h lt above = absurd (not-suc-le-zero lt)
 in_set-past n (r ∷ rs) zero c d h lt above = rw (in_range-above c r above) refl
 in_set-past n (r ∷ rs) (suc k) c d h lt above =
@@ -78,7 +82,8 @@ in_set-past n (r ∷ rs) (suc k) c d h lt above =
     rw (in_range-above c r (omega arith)) (in_set-past (r.last + 1) rs k c d parts.rest place beyond)
 
 -- from a place on, the ranges rise from the range at that place
-pub rises-drop : (n : ℕ) (rs : List CharRange) (k : ℕ) (d : CharRange) → rises n rs ≡ true → k < length rs → RisesParts n (get_or rs k d) (drop (suc k) rs)
+pub rises-drop : (n : ℕ) (rs : List CharRange) (k : ℕ) (d : CharRange) → rises n rs ≡ true → k < length rs
+    → RisesParts n (get_or rs k d) (drop (suc k) rs)
 rises-drop n [] k d h lt = absurd (not-suc-le-zero lt)
 rises-drop n (r ∷ rs) zero d h lt = rises-parts n r rs h
 rises-drop n (r ∷ rs) (suc k) d h lt =
@@ -125,7 +130,8 @@ in_set-after n (r ∷ rs) c h le =
     rw (in_range-above c r (omega arith)) (in_set-after (r.last + 1) rs c parts.rest beyond)
 
 -- one more range at the end
-pub rises-append : (n : ℕ) (rs : List CharRange) (r : CharRange) → rises n rs ≡ true → after_all n rs ≤ r.first → r.first ≤ r.last → r.last ≤ 1_114_111 → rises n (rs ++ r ∷ []) ≡ true
+pub rises-append : (n : ℕ) (rs : List CharRange) (r : CharRange) → rises n rs ≡ true → after_all n rs ≤ r.first
+    → r.first ≤ r.last → r.last ≤ 1_114_111 → rises n (rs ++ r ∷ []) ≡ true
 unfolding after_all
 rises-append n [] r h from ordered within =
     rises-cons n r [] (record { from = from; ordered = ordered; within = within; rest = rises-nil (r.last + 1) })
@@ -139,16 +145,19 @@ rises-append n (x ∷ rs) r h from ordered within =
       rest = rises-append (x.last + 1) rs r parts.rest from ordered within;
     })
 
-pub in_set-beyond : (rs : List CharRange) (k c : ℕ) (d : CharRange) → rises 0 rs ≡ true → k < length rs → (get_or rs k d).last < c → in_set rs c ≡ in_set (drop (k + 1) rs) c
+pub in_set-beyond : (rs : List CharRange) (k c : ℕ) (d : CharRange) → rises 0 rs ≡ true → k < length rs
+    → (get_or rs k d).last < c → in_set rs c ≡ in_set (drop (k + 1) rs) c
 in_set-beyond rs k c d h lt above = in_set-past 0 rs k c d h lt above ∙ ap (λ m. in_set (drop m rs) c) (sym (add-one k))
 
 -- where the ranges before a place don't count, a code before the range at that place is in none
-pub in_set-gap : (rs : List CharRange) (k c : ℕ) (d : CharRange) → rises 0 rs ≡ true → k < length rs → in_set rs c ≡ in_set (drop k rs) c → c < (get_or rs k d).first → in_set rs c ≡ false
+pub in_set-gap : (rs : List CharRange) (k c : ℕ) (d : CharRange) → rises 0 rs ≡ true → k < length rs → in_set rs c
+    ≡ in_set (drop k rs) c → c < (get_or rs k d).first → in_set rs c ≡ false
 in_set-gap rs k c d h lt here gap =
     let r = get_or rs k d in
     let parts = rises-drop 0 rs k d h lt in
     let rising : rises r.first (r ∷ drop (suc k) rs) ≡ true =
-    rises-cons r.first r (drop (suc k) rs) (record { from = le_refl r.first; ordered = parts.ordered; within = parts.within; rest = parts.rest }) in
+    rises-cons r.first r (drop (suc k) rs) (record
+    { from = le_refl r.first; ordered = parts.ordered; within = parts.within; rest = parts.rest }) in
     here ∙ ap (λ l. in_set l c) (drop-cons rs k d lt) ∙ in_set-before r.first (r ∷ drop (suc k) rs) c rising gap
 
 pub rises-one : (r : CharRange) → r.first ≤ r.last → r.last ≤ 1_114_111 → rises 0 (r ∷ []) ≡ true

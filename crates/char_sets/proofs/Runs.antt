@@ -1,12 +1,14 @@
 -- A table of runs, gone over run by run.
-use Rattle.std.proofs.Common.{◌≡◌, ℕ, ◌+◌, ◌/◌, ◌%◌, ◌<◌, ◌≤◌, true, nat_lt, List, [], ◌∷◌, map, length, drop, slice_index, subst, ◌∙◌, arith, eqb-true, ltb-true, drop_of_length-le}
+use Rattle.std.proofs.Common.{◌≡◌, ℕ, ◌+◌, ◌/◌, ◌%◌, ◌<◌, ◌≤◌, true, nat_lt, List, [], ◌∷◌, map, length, drop}
+use Rattle.std.proofs.Common.{slice_index, subst, ◌∙◌, arith, eqb-true, ltb-true, drop_of_length-le}
 use Rattle.std.proofs.lemmas.Bool.{and_parts}
 use Rattle.ucd_table.specs.Steps.{unpack, run_value, ends_rise}
 use Rattle.ucd_table.proofs.StepsLemmas.{step_value-here, run_value-drop}
 use Rattle.ucd_table.proofs.RunsLemmas.{IsAt}
 
 -- within a run each code has its value
-pub run-stretch : (runs : List ℕ) (i at c : ℕ) → IsAt runs i at → i < length runs → at ≤ c → c < slice_index runs i / 2048 → run_value runs c ≡ slice_index runs i % 2048
+pub run-stretch : (runs : List ℕ) (i at c : ℕ) → IsAt runs i at → i < length runs → at ≤ c
+    → c < slice_index runs i / 2048 → run_value runs c ≡ slice_index runs i % 2048
 run-stretch runs i at c h lt from to =
     h.values c from ∙ run_value-drop runs i c lt
     ∙ step_value-here 0 (unpack (slice_index runs i)) (map unpack (drop (i + 1) runs)) c to

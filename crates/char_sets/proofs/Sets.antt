@@ -1,5 +1,6 @@
 -- Sets by tests that agree.
-use Rattle.std.proofs.Common.{◌≡◌, ℕ, zero, suc, ◌<◌, not-suc-le-zero, le_of_suc-le-suc, ◌++◌, Bool, ◌&&◌, ◌||◌, ◌==◌, nat_le, List, [], ◌∷◌, map, refl, sym, ap₂, arith, inl, inr, le-leb, ◌∙◌}
+use Rattle.std.proofs.Common.{◌≡◌, ℕ, zero, suc, ◌<◌, not-suc-le-zero, le_of_suc-le-suc, ◌++◌, Bool, ◌&&◌, ◌||◌, ◌==◌}
+use Rattle.std.proofs.Common.{nat_le, List, [], ◌∷◌, map, refl, sym, ap₂, arith, inl, inr, le-leb, ◌∙◌}
 use Rattle.std.specs.List.{list_any}
 use Rattle.std.proofs.lemmas.Bool.{and_left, and_right, cases_lt, lt-leb}
 use Rattle.std.proofs.lemmas.Bool.Decides.{eqb_tells}
@@ -10,12 +11,14 @@ use Rattle.char_sets.specs.Ranges.{in_set, IsSetOf}
 use Rattle.char_sets.specs.declared.named_sets.KnownSet.{KnownSet}
 use Rattle.char_sets.specs.declared.char_set.CharRange.{CharRange}
 
-pub IfOk-IsSetOf : {E : Type 0} (r : Result (List CharRange) E) (p q : ℕ → Bool) → IfOk r (λ s. IsSetOf s p) → ((c : ℕ) → c < 1_114_112 → p c ≡ q c) → IfOk r (λ s. IsSetOf s q)
+pub IfOk-IsSetOf : {E : Type 0} (r : Result (List CharRange) E) (p q : ℕ → Bool) → IfOk r (λ s. IsSetOf s p)
+    → ((c : ℕ) → c < 1_114_112 → p c ≡ q c) → IfOk r (λ s. IsSetOf s q)
 IfOk-IsSetOf (Ok s) p q h same = λ c lt. h c lt ∙ same c lt
 IfOk-IsSetOf (Err e) p q h same = tt
 
 -- ranges that are kept are a set as they were
-pub IfOk-same : {E : Type 0} (r : Result (List CharRange) E) (ranges : List CharRange) (p : ℕ → Bool) → IfOk r (λ s. s ≡ ranges) → IsSetOf ranges p → IfOk r (λ s. IsSetOf s p)
+pub IfOk-same : {E : Type 0} (r : Result (List CharRange) E) (ranges : List CharRange) (p : ℕ → Bool)
+    → IfOk r (λ s. s ≡ ranges) → IsSetOf ranges p → IfOk r (λ s. IsSetOf s p)
 IfOk-same (Ok s) ranges p same h = rw same h
 IfOk-same (Err e) ranges p same h = tt
 
@@ -24,7 +27,8 @@ one-known known is zero d lt = is
 one-known known is (suc k) d lt = absurd (not-suc-le-zero (le_of_suc-le-suc lt))
 
 -- one known set more
-pub AreKnown-push : (all : List KnownSet) (known : KnownSet) → AreKnown all → IsKnown known → AreKnown (all ++ known ∷ [])
+pub AreKnown-push : (all : List KnownSet) (known : KnownSet) → AreKnown all → IsKnown known
+    → AreKnown (all ++ known ∷ [])
 AreKnown-push all known are is = All-append IsKnown all (known ∷ []) are (one-known known is)
 
 abbrev pub only : ℕ → CharRange

@@ -4,7 +4,8 @@ use Rattle.std.specs.Prelude.{slice_get, unwrap_or}
 use Rattle.pattern_defs.specs.declared.nodes.ListId.{ListId}
 use Rattle.pattern_defs.specs.declared.nodes.Arm.{Arm}
 use Rattle.pattern_defs.specs.declared.nodes.PatNode.{PatNode}
-use Rattle.pattern_defs.specs.declared.nodes.PatNode.TheVariants.{One, At, Choice, Group, Repeat, Ahead, Behind, Atomic, Back}
+use Rattle.pattern_defs.specs.declared.nodes.PatNode.TheVariants.{One, At, Choice, Group, Repeat, Ahead, Behind}
+use Rattle.pattern_defs.specs.declared.nodes.PatNode.TheVariants.{Atomic, Back}
 use Rattle.pattern_defs.specs.Patterns.{NodeLists, AllIds, AllArms, IsNode, AreNodes, AreLists}
 
 pub AllIds-widen : (a b : ℕ) (ids : List ListId) → a ≤ b → AllIds a ids → AllIds b ids
@@ -30,23 +31,30 @@ IsNode-widen a b g k (Back number fold) h more is = let low : number ≤ g = is.
 
 pub AreNodes-widen : (a b g k : ℕ) (nodes : List PatNode) → a ≤ b → g ≤ k → AreNodes a g nodes → AreNodes b k nodes
 AreNodes-widen a b g k [] h more are = tt
-AreNodes-widen a b g k (node ∷ nodes) h more are = (IsNode-widen a b g k node h more are.0, AreNodes-widen a b g k nodes h more are.1)
+AreNodes-widen a b g k (node ∷ nodes) h more are =
+    (IsNode-widen a b g k node h more are.0, AreNodes-widen a b g k nodes h more are.1)
 
 pub AreLists-raise : (n g k : ℕ) (lists : NodeLists) → g ≤ k → AreLists n g lists → AreLists n k lists
 AreLists-raise n g k [] more are = tt
-AreLists-raise n g k (nodes ∷ lists) more are = (AreNodes-widen n n g k nodes (omega arith) more are.0, AreLists-raise (n + 1) g k lists more are.1)
+AreLists-raise n g k (nodes ∷ lists) more are =
+    (AreNodes-widen n n g k nodes (omega arith) more are.0, AreLists-raise (n + 1) g k lists more are.1)
 
-pub AreLists-push : (n g m : ℕ) (lists : NodeLists) (nodes : List PatNode) → AreLists n g lists → m ≤ n + length lists → AreNodes m g nodes → AreLists n g (lists ++ nodes ∷ [])
+pub AreLists-push : (n g m : ℕ) (lists : NodeLists) (nodes : List PatNode) → AreLists n g lists → m ≤ n + length lists
+    → AreNodes m g nodes → AreLists n g (lists ++ nodes ∷ [])
 AreLists-push n g m [] nodes are h new = (AreNodes-widen m n g g nodes (omega arith) (omega arith) new, tt)
-AreLists-push n g m (first ∷ lists) nodes are h new = (are.0, AreLists-push (n + 1) g m lists nodes are.1 (omega arith) new)
+AreLists-push n g m (first ∷ lists) nodes are h new =
+    (are.0, AreLists-push (n + 1) g m lists nodes are.1 (omega arith) new)
 
-pub AreNodes-list : (n g : ℕ) (lists : NodeLists) (k m : ℕ) → AreLists n g lists → k < length lists → n + length lists ≤ m → AreNodes m g (unwrap_or (slice_get lists k) [])
+pub AreNodes-list : (n g : ℕ) (lists : NodeLists) (k m : ℕ) → AreLists n g lists → k < length lists
+    → n + length lists ≤ m → AreNodes m g (unwrap_or (slice_get lists k) [])
 AreNodes-list n g [] k m are h room = absurd (omega arith)
 AreNodes-list n g (nodes ∷ lists) zero m are h room = AreNodes-widen n m g g nodes (omega arith) (omega arith) are.0
-AreNodes-list n g (nodes ∷ lists) (suc k) m are h room = AreNodes-list (n + 1) g lists k m are.1 (omega arith) (omega arith)
+AreNodes-list n g (nodes ∷ lists) (suc k) m are h room =
+    AreNodes-list (n + 1) g lists k m are.1 (omega arith) (omega arith)
 
 -- each of the numbers is below the bound
-pub AllIds-at : (n : ℕ) (ids : List ListId) (k : ℕ) (d : ListId) → AllIds n ids → k < length ids → (get_or ids k d).0 < n
+pub AllIds-at : (n : ℕ) (ids : List ListId) (k : ℕ) (d : ListId) → AllIds n ids → k < length ids
+    → (get_or ids k d).0 < n
 AllIds-at n [] k d all h = absurd (omega arith)
 AllIds-at n (id ∷ ids) zero d all h = all.0
 AllIds-at n (id ∷ ids) (suc k) d all h = AllIds-at n ids k d all.1 (omega arith)

@@ -15,10 +15,12 @@ loop-code-preserved c =
     elim c.if-is_missing.branch [
       | then-is_missing+in_ok-push w ↦
           subst (λ rs. Letters rs (code + 1) p) (sym (ap (λ v. v.items) w.out-is ∙ w.in_ok-push.ensures.items))
-          (Letters-push c.loop-code.out.items code p c.loop-code.invariant (omega (arith, c.loop-code-test.true)) (sym c.is_missing.ensures ∙ w.if-is_missing.true))
+          (Letters-push c.loop-code.out.items code p c.loop-code.invariant (omega (arith, c.loop-code-test.true))
+          (sym c.is_missing.ensures ∙ w.if-is_missing.true))
       | else-is_missing w ↦
           subst (λ rs. Letters rs (code + 1) p) (sym (ap (λ v. v.items) w.out-is))
-          (Letters-skip c.loop-code.out.items code p c.loop-code.invariant (sym c.is_missing.ensures ∙ w.if-is_missing.false))
+          (Letters-skip c.loop-code.out.items code p c.loop-code.invariant
+          (sym c.is_missing.ensures ∙ w.if-is_missing.false))
     ]
 
 pub returns-clause-rising : goal.returns-clause-rising

@@ -34,12 +34,15 @@ loop-at-preserved c =
     record {
       so_far = elim c.if-not-holds.branch [
         | then-not-holds+in_ok-close w ↦
-            let gap = Joined-gap (closed ranges start at) at end p (Joined-closed ranges start at p inv.so_far) further within
+            let gap = Joined-gap (closed ranges start at) at end p (Joined-closed ranges start at p inv.so_far)
+            further within
             (λ d from to. member d from to ∙ w.if-not-holds.true) in
-            let written = subst (λ rs. Joined rs end end p) (sym (ap (λ v. v.items) w.ranges-is ∙ w.in_ok-close.ensures)) gap in
+            let written = subst (λ rs. Joined rs end end p)
+            (sym (ap (λ v. v.items) w.ranges-is ∙ w.in_ok-close.ensures)) gap in
             subst (λ n. Joined c.if-not-holds.ranges.items n end p) (sym w.start-is) written
         | else-not-holds w ↦
-            let more = Joined-more ranges start at end p inv.so_far further within (λ d from to. member d from to ∙ w.if-not-holds.false) in
+            let more = Joined-more ranges start at end p inv.so_far further within
+            (λ d from to. member d from to ∙ w.if-not-holds.false) in
             let written = subst (λ rs. Joined rs start end p) (sym (ap (λ v. v.items) w.ranges-is)) more in
             subst (λ n. Joined c.if-not-holds.ranges.items n end p) (sym w.start-is) written
       ];
@@ -58,4 +61,5 @@ returns-clause-members c =
     let p : ℕ → Bool = λ d. kept c.args.keep (in_set c.args.a.now d) (in_set c.args.b.now d) in
     let ranges = closed c.loop-at.ranges.items c.loop-at.start c.loop-at.at in
     subst (λ rs. IsSetOf rs p) (sym c.in_ok-close-2.ensures)
-    (Joined-done ranges c.loop-at.at p (Joined-closed c.loop-at.ranges.items c.loop-at.start c.loop-at.at p c.loop-at.invariant.so_far) c.loop-at-test.false)
+    (Joined-done ranges c.loop-at.at p (Joined-closed c.loop-at.ranges.items c.loop-at.start c.loop-at.at p
+    c.loop-at.invariant.so_far) c.loop-at-test.false)

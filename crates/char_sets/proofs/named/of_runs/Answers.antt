@@ -20,7 +20,8 @@ loop-run-init c =
 pub of_ranges-requires : goal.of_ranges-requires
 of_ranges-requires c =
     let p : ℕ → Bool = λ d. has_number c.args.numbers (run_value c.args.runs.now d) in
-    ap (rises 0) c.in_ok-close-2.ensures ∙ (Joined-closed c.loop-run.ranges.items c.loop-run.start c.loop-run.at p c.loop-run.invariant.so_far).rising
+    ap (rises 0) c.in_ok-close-2.ensures ∙ (Joined-closed c.loop-run.ranges.items c.loop-run.start c.loop-run.at p
+    c.loop-run.invariant.so_far).rising
 
 pub returns : goal.returns
 returns c =
@@ -29,7 +30,8 @@ returns c =
     let ranges = closed c.loop-run.ranges.items c.loop-run.start c.loop-run.at in
     IfOk-same c.of_ranges.result c.close-2.new.ranges.items p c.of_ranges.ensures
     (subst (λ rs. IsSetOf rs p) (sym c.in_ok-close-2.ensures)
-    (Joined-done ranges c.loop-run.at p (Joined-closed c.loop-run.ranges.items c.loop-run.start c.loop-run.at p inv.so_far)
+    (Joined-done ranges c.loop-run.at p (Joined-closed c.loop-run.ranges.items c.loop-run.start c.loop-run.at p
+    inv.so_far)
     (run-end c.args.runs.now c.loop-run.run-index c.loop-run.at inv.place c.loop-run-test.false)))
 
 pub loop-run-preserved : goal.loop-run-preserved
@@ -46,12 +48,15 @@ loop-run-preserved c =
     let next = IsAt-next runs i at inv.place c.loop-run-test.true in
     let within = run-within runs (i + 1) end next in
     let member : (d : ℕ) → at ≤ d → d < end → p d ≡ c.has.result = λ d from to.
-    ap (has_number c.args.numbers) (run-stretch runs i at d inv.place c.loop-run-test.true from to) ∙ sym c.has.ensures in
+    ap (has_number c.args.numbers) (run-stretch runs i at d inv.place c.loop-run-test.true from to)
+    ∙ sym c.has.ensures in
     elim c.if-not-has.branch [
       | then-not-has+in_ok-close w ↦
-          let gap = Joined-gap (closed ranges start at) at end p (Joined-closed ranges start at p inv.so_far) further within
+          let gap = Joined-gap (closed ranges start at) at end p (Joined-closed ranges start at p inv.so_far) further
+          within
           (λ d from to. member d from to ∙ w.if-not-has.true) in
-          let written = subst (λ rs. Joined rs end end p) (sym (ap (λ v. v.items) w.ranges-is ∙ w.in_ok-close.ensures)) gap in
+          let written = subst (λ rs. Joined rs end end p)
+          (sym (ap (λ v. v.items) w.ranges-is ∙ w.in_ok-close.ensures)) gap in
           let started = subst (λ n. Joined c.if-not-has.ranges.items n end p) (sym w.start-is) written in
           record {
             place = subst (IsAt runs (i + 1)) (sym w.at-is) next;
