@@ -1,6 +1,6 @@
 -- The marks of a line, from one column to the next mark's end.
 use Rattle.std.proofs.Common.{◌≡◌, ℕ, zero, suc, ◌+◌, ◌-◌, ◌<◌, List, [], ◌∷◌, ◌++◌, length, take, drop, Some, None}
-use Rattle.std.proofs.Common.{refl, ap, ◌∙◌, arith, append_assoc, add-zero, length-drop, Option}
+use Rattle.std.proofs.Common.{refl, ◌∙◌, arith, append_assoc, add-zero, length-drop, Option}
 use Rattle.std.proofs.lemmas.List.{take_all}
 use Rattle.pairing_defs.specs.declared.BracketText.{BracketText}
 use Rattle.pairing_defs.specs.declared.LineMark.{LineMark}

@@ -1,5 +1,6 @@
 -- What the stack stands for, after a cell, an entry or a change is added, and after going back.
-use Rattle.std.proofs.Common.{◌≡◌, ℕ, zero, suc, ◌+◌, ◌-◌, ◌<◌, ◌≤◌, ◌==◌, List, [], ◌∷◌, length, take, drop, refl, ap, eq-eqb, ◌∙◌, arith}
+use Rattle.std.proofs.Common.{◌≡◌, ℕ, zero, suc, ◌+◌, ◌-◌, ◌<◌, ◌≤◌, ◌==◌, List, [], ◌∷◌, length, take, drop, refl}
+use Rattle.std.proofs.Common.{ap, eq-eqb, ◌∙◌, arith}
 use Rattle.std.specs.Prelude.{true, false, Option, Some, slice_get, slice_set}
 use Rattle.std.proofs.lemmas.List.{length-drop}
 use Rattle.pattern_defs.specs.declared.outcomes.Place.{Place}
@@ -50,7 +51,8 @@ undone-twice (suc a) b (change ∷ trail) captures =
 pub captures_at-kept : (e h : ℕ) (trail : List Change) (captures : Captures) → e ≤ h → h ≤ length trail →
     captures_at e (kept h trail) (captures_at h trail captures) ≡ captures_at e trail captures
 captures_at-kept e h trail captures low high =
-    let first : length (drop (length trail - h) trail) - e ≡ h - e = omega (arith, length-drop (length trail - h) trail) in
+    let first : length (drop (length trail - h) trail) - e ≡ h - e =
+    omega (arith, length-drop (length trail - h) trail) in
     let both : (length trail - h) + (h - e) ≡ length trail - e = omega arith in
     rw (first, undone-twice (length trail - h) (h - e) trail captures, both) refl
 
@@ -65,7 +67,8 @@ restored (x ∷ xs) (suc n) old new is = ap (λ (rest : Captures). x ∷ rest) (
 
 pub captures_at-change : (h : ℕ) (number : ℕ) (old new : Option Place) (trail : List Change) (captures : Captures) →
     slice_get captures number ≡ Some old → h ≤ length trail →
-    captures_at h (record { number = number; old = old } ∷ trail) (slice_set captures number new) ≡ captures_at h trail captures
+    captures_at h (record { number = number; old = old } ∷ trail) (slice_set captures number new)
+    ≡ captures_at h trail captures
 captures_at-change h number old new trail captures is low =
     let e : suc (length trail) - h ≡ suc (length trail - h) = omega arith in
     rw e (ap (λ (now : Captures). undone (take (length trail - h) trail) now) (restored captures number old new is))
@@ -82,7 +85,8 @@ pub chain-older : (lists : NodeLists) (cell : Cell) (cells : List Cell) (n : ℕ
     chain lists (cell ∷ cells) n ≡ chain lists cells n
 chain-older lists (Nodes rest) cells n h = rw (other_number n (suc (length cells)) (omega arith)) refl
 chain-older lists (GroupEnd group from rest) cells n h = rw (other_number n (suc (length cells)) (omega arith)) refl
-chain-older lists (Iteration repeat count begun rest) cells n h = rw (other_number n (suc (length cells)) (omega arith)) refl
+chain-older lists (Iteration repeat count begun rest) cells n h =
+    rw (other_number n (suc (length cells)) (omega arith)) refl
 
 pub chain-newest : (lists : NodeLists) (cell : Cell) (cells : List Cell) (n : ℕ) → n ≡ suc (length cells) →
     chain lists (cell ∷ cells) n ≡ cell_todo lists cells cell
@@ -100,22 +104,38 @@ todo_of-older lists cell cells rest h = rw (chain-older lists cell cells rest.ne
 
 -- what is done with an end
 
-pub carry-cell : (s : Subject) (tree : Tree) (chars : ℕ) (cell : Cell) (cells : List Cell) (trail : List Change) (captures : Captures) (entries : List Entry) (ran : Ran) → AreEntries tree chars (length cells) (length trail) entries → carry s (cell ∷ cells) trail captures entries ran ≡ carry s cells trail captures entries ran
+pub carry-cell : (s : Subject) (tree : Tree) (chars : ℕ) (cell : Cell) (cells : List Cell) (trail : List Change)
+    (captures : Captures) (entries : List Entry) (ran : Ran)
+    → AreEntries tree chars (length cells) (length trail) entries
+    → carry s (cell ∷ cells) trail captures entries ran ≡ carry s cells trail captures entries ran
 carry-cell s tree chars cell cells trail captures [] ran are = refl
-carry-cell s tree chars cell cells trail captures (entry ∷ entries) ran are = rw (kept-older entry.cells cell cells are.0.below) refl
+carry-cell s tree chars cell cells trail captures (entry ∷ entries) ran are =
+    rw (kept-older entry.cells cell cells are.0.below) refl
 
-pub carry-change : (s : Subject) (tree : Tree) (chars : ℕ) (cells : List Cell) (number : ℕ) (old new : Option Place) (trail : List Change) (captures : Captures) (entries : List Entry) (ran : Ran) → AreEntries tree chars (length cells) (length trail) entries → slice_get captures number ≡ Some old → carry s cells (record { number = number; old = old } ∷ trail) (slice_set captures number new) entries ran ≡ carry s cells trail captures entries ran
+pub carry-change : (s : Subject) (tree : Tree) (chars : ℕ) (cells : List Cell) (number : ℕ) (old new : Option Place)
+    (trail : List Change) (captures : Captures) (entries : List Entry) (ran : Ran)
+    → AreEntries tree chars (length cells) (length trail) entries → slice_get captures number ≡ Some old
+    → carry s cells (record { number = number; old = old } ∷ trail) (slice_set captures number new) entries ran
+    ≡ carry s cells trail captures entries ran
 carry-change s tree chars cells number old new trail captures [] ran are is = refl
 carry-change s tree chars cells number old new trail captures (entry ∷ entries) ran are is =
     let low : entry.trail ≤ length trail = are.0.before in
     let change : Change = record { number = number; old = old } in
-    rw (kept-older entry.trail change trail low, captures_at-change entry.trail number old new trail captures is low) refl
+    rw (kept-older entry.trail change trail low, captures_at-change entry.trail number old new trail captures is low)
+    refl
 
-pub carry-entry : (s : Subject) (cells : List Cell) (trail : List Change) (captures : Captures) (entry : Entry) (entries : List Entry) (ran : Ran) → entry.cells ≡ length cells → entry.trail ≡ length trail → carry s cells trail captures (entry ∷ entries) ran ≡ carry s cells trail captures entries (resumed s cells captures entry.resume entry.at ran)
-carry-entry s cells trail captures entry entries ran e f = rw (e, f, kept-all cells, kept-all trail, captures_at-all trail captures) refl
+pub carry-entry : (s : Subject) (cells : List Cell) (trail : List Change) (captures : Captures) (entry : Entry)
+    (entries : List Entry) (ran : Ran) → entry.cells ≡ length cells → entry.trail ≡ length trail
+    → carry s cells trail captures (entry ∷ entries) ran
+    ≡ carry s cells trail captures entries (resumed s cells captures entry.resume entry.at ran)
+carry-entry s cells trail captures entry entries ran e f =
+    rw (e, f, kept-all cells, kept-all trail, captures_at-all trail captures) refl
 
 -- captures that are kept behind entries that are dropped
-pub carry-skip : (s : Subject) (tree : Tree) (chars : ℕ) (cells : List Cell) (t : ℕ) (trail : List Change) (captures : Captures) (entries : List Entry) (ran : Ran) → AreEntries tree chars (length cells) t entries → t ≤ length trail → carry s cells (kept t trail) (captures_at t trail captures) entries ran ≡ carry s cells trail captures entries ran
+pub carry-skip : (s : Subject) (tree : Tree) (chars : ℕ) (cells : List Cell) (t : ℕ) (trail : List Change)
+    (captures : Captures) (entries : List Entry) (ran : Ran) → AreEntries tree chars (length cells) t entries
+    → t ≤ length trail → carry s cells (kept t trail) (captures_at t trail captures) entries ran
+    ≡ carry s cells trail captures entries ran
 carry-skip s tree chars cells t trail captures [] ran are h = refl
 carry-skip s tree chars cells t trail captures (entry ∷ entries) ran are h =
     let low : entry.trail ≤ t = are.0.before in

@@ -1,5 +1,6 @@
 -- How an attempt ends when no entry is left, and what each turn of it keeps.
-use Rattle.std.proofs.Common.{◌≡◌, ℕ, zero, suc, ◌+◌, ◌-◌, ◌*◌, ◌<◌, List, [], ◌∷◌, length, replicate, refl, sym, subst, ◌∙◌, arith}
+use Rattle.std.proofs.Common.{◌≡◌, ℕ, zero, suc, ◌+◌, ◌-◌, ◌*◌, ◌<◌, List, [], ◌∷◌, length, replicate, refl, sym}
+use Rattle.std.proofs.Common.{subst, ◌∙◌, arith}
 use Rattle.std.specs.Prelude.{true, false, Option, Some, None, slice_set}
 use Rattle.std.proofs.lemmas.List.{length-replicate}
 use Rattle.pattern_defs.specs.declared.nodes.ListId.{ListId}
@@ -7,7 +8,8 @@ use Rattle.pattern_defs.specs.declared.outcomes.Flags.{Flags}
 use Rattle.pattern_defs.specs.declared.outcomes.Outcome.TheVariants as outcomes
 use Rattle.pattern_defs.specs.declared.outcomes.Place.{Place}
 use Rattle.pattern_defs.specs.Patterns.{Tree}
-use Rattle.pattern_defs.specs.Attempt.{Subject, Captures, Ran, Hit, Miss, Spent, before, attempt, with_whole, outcome_of, last_hit_captures}
+use Rattle.pattern_defs.specs.Attempt.{Subject, Captures, Ran, Hit, Miss, Spent, before, attempt, with_whole}
+use Rattle.pattern_defs.specs.Attempt.{outcome_of, last_hit_captures}
 use Rattle.onig_match.specs.declared.cells.Rest.{Rest}
 use Rattle.onig_match.specs.declared.cells.Cell.{Cell}
 use Rattle.onig_match.specs.declared.entries.Change.{Change}
@@ -15,21 +17,24 @@ use Rattle.onig_match.specs.declared.entries.End.TheVariants as ends
 use Rattle.onig_match.specs.declared.entries.Entry.{Entry}
 use Rattle.onig_match.specs.declared.entries.Point.{Point}
 use Rattle.onig_match.specs.declared.entries.Resume.{Resume}
-use Rattle.onig_match.specs.declared.entries.Resume.TheVariants.{Other, Alternatives, AfterAhead, AfterBehind, AfterAtomic}
+use Rattle.onig_match.specs.declared.entries.Resume.TheVariants.{Other, Alternatives, AfterAhead, AfterBehind}
+use Rattle.onig_match.specs.declared.entries.Resume.TheVariants.{AfterAtomic}
 use Rattle.onig_match.specs.declared.entries.Step.{Step}
 use Rattle.onig_match.specs.declared.entries.Step.TheVariants.{Go}
 use Rattle.onig_match.specs.declared.area.Area.{Area}
 use Rattle.onig_match.specs.declared.searched.Searched.{Searched}
 use Rattle.onig_match.specs.Goes.{goes}
 use Rattle.onig_match.specs.Piles.{Piled}
-use Rattle.onig_match.specs.Machine.{subject, kept, captures_at, todo_of, resumed, carry, carried, means, with_entry, end_of, rank}
+use Rattle.onig_match.specs.Machine.{subject, kept, captures_at, todo_of, resumed, carry, carried, means, with_entry}
+use Rattle.onig_match.specs.Machine.{end_of, rank}
 use Rattle.onig_match.specs.Sound.{AreTaken, IsSound, IsStep, HasRoom, SameRooms, Leads}
 use Rattle.onig_match.proofs.VisitCounts.{goes-zero}
 use Rattle.onig_match.proofs.VisitSteps.{start, start_alone}
 
 pub begins : (on : Searched) (old : Area) (at budget : ℕ) (rest : Rest) (top : ListId) → rest ≡ start top 0 →
     old.entries.items ≡ [] →
-    means (subject on) old (Go (record { rest = rest; at = at })) budget ≡ goes (subject on) (before on.pattern.now.lists top []) at old.captures.items budget
+    means (subject on) old (Go (record { rest = rest; at = at })) budget
+    ≡ goes (subject on) (before on.pattern.now.lists top []) at old.captures.items budget
 begins on old at budget rest top e none = rw (e, none, start_alone on.pattern.now.lists old.cells.items top) refl
 
 -- the budget is spent
@@ -55,12 +60,14 @@ pub spent : (on : Searched) (area : Area) (step : Step) (point : Point) (left : 
     step ≡ Go point → left ≡ 0 → means (subject on) area step left ≡ answer → answer ≡ Spent
 spent on area step point left answer e none is =
     let now : means (subject on) area (Go point) 0 ≡ answer = rw (e, none) at is in
-    sym now ∙ rw (goes-zero (subject on) (todo_of on.pattern.now.lists area.cells.items point.rest) point.at area.captures.items)
+    sym now ∙ rw (goes-zero (subject on) (todo_of on.pattern.now.lists area.cells.items point.rest) point.at
+    area.captures.items)
     (carry-spent (subject on) area.cells.items area.trail.items area.captures.items area.entries.items)
 
 -- one turn
 
-pub record Turns (on : Searched) (initial new : Area) (result : Step) (left : ℕ) (answer : Ran) (before_it : ℕ) : Type 0 where
+pub record Turns (on : Searched) (initial new : Area) (result : Step) (left : ℕ) (answer : Ran) (before_it : ℕ) : Type
+    0 where
   pub ends : means (subject on) new result left ≡ answer
   pub sound : IsSound on new
   pub step : IsStep on (length new.cells.items) result
@@ -76,7 +83,10 @@ rooms_join a b c ab bc = record {
   trail = bc.trail ∙ ab.trail;
 }
 
-pub after_visit : (on : Searched) (initial self new : Area) (step result : Step) (point : Point) (left : ℕ) (answer : Ran) → step ≡ Go point → (left ≡ 0 → ⊥) → means (subject on) self step left ≡ answer → HasRoom self left → SameRooms initial self → Leads on 1 self (λ l. means (subject on) self (Go point) (suc l)) new result → Turns on initial new result (left - 1) answer (4 * left + 2 * length self.entries.items + rank step)
+pub after_visit : (on : Searched) (initial self new : Area) (step result : Step) (point : Point) (left : ℕ)
+    (answer : Ran) → step ≡ Go point → (left ≡ 0 → ⊥) → means (subject on) self step left ≡ answer → HasRoom self left
+    → SameRooms initial self → Leads on 1 self (λ l. means (subject on) self (Go point) (suc l)) new result
+    → Turns on initial new result (left - 1) answer (4 * left + 2 * length self.entries.items + rank step)
 after_visit on initial self new step result point left answer e some is has rooms leads =
     let one : suc (left - 1) ≡ left = omega (arith, some) in
     let more : left - 1 + 1 ≡ left = omega (arith, some) in
@@ -92,13 +102,35 @@ after_visit on initial self new step result point left answer e some is has room
 
 popped : (self : Area) (rest : Piled Entry) (entry : Entry) → self.entries.items ≡ entry ∷ rest.items →
     rest.room ≡ self.entries.room →
-    with_entry (record { captures = self.captures; cells = self.cells; entries = rest; trail = self.trail }) entry ≡ self
+    with_entry (record { captures = self.captures; cells = self.cells; entries = rest; trail = self.trail }) entry
+    ≡ self
 popped self rest entry items room = rw (room, ← items) refl
 
-pub after_pop : (on : Searched) (initial self new : Area) (rest : Piled Entry) (entry : Entry) (step result : Step) (ran : Area → ℕ → Ran) (left : ℕ) (answer : Ran) → self.entries.items ≡ entry ∷ rest.items → rest.room ≡ self.entries.room → ((l : ℕ) → means (subject on) self step l ≡ carried (subject on) self (ran self l)) → rank step ≡ 1 → means (subject on) self step left ≡ answer → HasRoom self left → SameRooms initial self → Leads on 0 (with_entry (record { captures = self.captures; cells = self.cells; entries = rest; trail = self.trail }) entry) (λ l. carried (subject on) (with_entry (record { captures = self.captures; cells = self.cells; entries = rest; trail = self.trail }) entry) (ran (with_entry (record { captures = self.captures; cells = self.cells; entries = rest; trail = self.trail }) entry) l)) new result → Turns on initial new result left answer (4 * left + 2 * length self.entries.items + rank step)
+pub after_pop : (on : Searched) (initial self new : Area) (rest : Piled Entry) (entry : Entry) (step result : Step)
+    (ran : Area → ℕ → Ran) (left : ℕ) (answer : Ran) → self.entries.items ≡ entry ∷ rest.items → rest.room
+    ≡ self.entries.room → ((l : ℕ) → means (subject on) self step l ≡ carried (subject on) self (ran self l))
+    → rank step ≡ 1 → means (subject on) self step left ≡ answer → HasRoom self left → SameRooms initial self
+    → Leads on 0 (with_entry (record {
+      captures = self.captures;
+      cells = self.cells;
+      entries = rest;
+      trail =
+          self.trail;
+    }) entry) (λ l. carried (subject on)
+    (with_entry (record {
+      captures = self.captures;
+      cells = self.cells;
+      entries = rest;
+      trail =
+          self.trail;
+    }) entry) (ran (with_entry (record
+    { captures = self.captures; cells = self.cells; entries = rest; trail = self.trail }) entry) l))
+    new result → Turns on initial new result left answer
+    (4 * left + 2 * length self.entries.items + rank step)
 after_pop on initial self new rest entry step result ran left answer items room same ended is has rooms led =
     let leads : Leads on 0 self (λ l. carried (subject on) self (ran self l)) new result =
-    subst (λ (a : Area). Leads on 0 a (λ l. carried (subject on) a (ran a l)) new result) (popped self rest entry items room) led in
+    subst (λ (a : Area). Leads on 0 a (λ l. carried (subject on) a (ran a l)) new result)
+    (popped self rest entry items room) led in
     let none : left + 0 ≡ left = omega arith in
     record {
       ends = leads.ends left ∙ sym (same left) ∙ is;
@@ -112,7 +144,9 @@ after_pop on initial self new rest entry step result ran left answer items room 
 -- the end
 
 pub attempt-goes : (tree : Tree) (text : List ℕ) (at : ℕ) (flags : Flags) (budget : ℕ) →
-    attempt tree text at flags budget ≡ with_whole at (goes (record { lists = tree.lists; text = text; flags = flags }) (before tree.lists tree.top []) at (replicate (tree.groups + 1) None) budget)
+    attempt tree text at flags budget ≡ with_whole at (goes
+    (record { lists = tree.lists; text = text; flags = flags })
+    (before tree.lists tree.top []) at (replicate (tree.groups + 1) None) budget)
 unfolding goes
 attempt-goes tree text at flags budget = refl
 
@@ -158,7 +192,14 @@ AreTaken-none chars zero = tt
 AreTaken-none chars (suc n) = (tt, AreTaken-none chars n)
 
 pub sound_empty : (on : Searched) (area : Area) (captures_room cells_room entries_room trail_room : ℕ) →
-    area ≡ record { captures = record { room = captures_room; items = replicate (on.pattern.now.groups + 1) None }; cells = record { room = cells_room; items = [] }; entries = record { room = entries_room; items = [] }; trail = record { room = trail_room; items = [] } } → IsSound on area
+    area ≡ record {
+      captures = record { room = captures_room; items = replicate (on.pattern.now.groups + 1) None };
+      cells = record { room = cells_room; items = [] };
+      entries =
+          record { room = entries_room; items = [] };
+      trail = record { room = trail_room; items = [] };
+    }
+    → IsSound on area
 sound_empty on area captures_room cells_room entries_room trail_room e =
     rw e (record {
       groups = length-replicate {A = Option Place} (on.pattern.now.groups + 1) None;

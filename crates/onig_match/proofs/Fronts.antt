@@ -17,13 +17,15 @@ past : (lists : NodeLists) (cells : List Cell) (rest : Rest) (nodes : List PatNo
     nodes ≡ nodes_of lists rest.list → length nodes ≤ rest.index →
     todo_of lists cells rest ≡ chain lists cells rest.next
 past lists cells rest nodes e h =
-    let none : ◌≡◌ {A = List PatNode} (drop rest.index (nodes_of lists rest.list)) [] = drop_all rest.index (nodes_of lists rest.list) (rw (← e) h) in
+    let none : ◌≡◌ {A = List PatNode} (drop rest.index (nodes_of lists rest.list)) [] =
+    drop_all rest.index (nodes_of lists rest.list) (rw (← e) h) in
     rw none refl
 
 pub exhausted : (on : Searched) (area : Area) (rest : Rest) (nodes : List PatNode) →
     nodes ≡ nodes_of on.pattern.now.lists rest.list → length nodes ≤ rest.index → rest.next ≡ 0 →
     todo_of on.pattern.now.lists area.cells.items rest ≡ []
-exhausted on area rest nodes e h zero = past on.pattern.now.lists area.cells.items rest nodes e h ∙ rw zero (chain-zero on.pattern.now.lists area.cells.items)
+exhausted on area rest nodes e h zero = past on.pattern.now.lists area.cells.items rest nodes e h
+    ∙ rw zero (chain-zero on.pattern.now.lists area.cells.items)
 
 -- the rest goes on with a cell
 pub record Passes (on : Searched) (area : Area) (rest : Rest) (cell : Cell) : Type 0 where
@@ -41,7 +43,8 @@ passes on area rest nodes cell sound inside e h some read =
     let reach : rest.next ≤ length area.cells.items = inside.next in
     let above : 0 < rest.next = omega (arith, some) in
     let stands : IsRead on.pattern.now.lists on.pattern.now (length on.text.now) area.cells.items rest.next cell =
-    cell_at on.pattern.now.lists on.pattern.now (length on.text.now) area.cells.items rest.next cell sound.cells above reach read in
+    cell_at on.pattern.now.lists on.pattern.now (length on.text.now) area.cells.items rest.next cell sound.cells above
+    reach read in
     record {
       todo = past on.pattern.now.lists area.cells.items rest nodes e h ∙ stands.stands;
       is = stands.is;

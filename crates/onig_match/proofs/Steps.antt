@@ -1,5 +1,6 @@
 -- What holds of the stack after each change of it, and how a step leads on.
-use Rattle.std.proofs.Common.{◌≡◌, ℕ, zero, suc, ◌+◌, ◌-◌, ◌<◌, ◌≤◌, List, [], ◌∷◌, length, take, drop, refl, sym, ap, subst, ◌∙◌, arith}
+use Rattle.std.proofs.Common.{◌≡◌, ℕ, zero, suc, ◌+◌, ◌-◌, ◌<◌, ◌≤◌, List, [], ◌∷◌, length, take, drop, refl, sym, ap}
+use Rattle.std.proofs.Common.{subst, ◌∙◌, arith}
 use Rattle.std.specs.Prelude.{Option, Some, slice_get, slice_set}
 use Rattle.std.proofs.lemmas.List.{length-set}
 use Rattle.pattern_defs.specs.declared.outcomes.Place.{Place}
@@ -16,8 +17,10 @@ use Rattle.onig_match.specs.declared.entries.Step.TheVariants.{Go, Found, Failed
 use Rattle.onig_match.specs.declared.area.Area.{Area}
 use Rattle.onig_match.specs.declared.searched.Searched.{Searched}
 use Rattle.onig_match.specs.Piles.{Piled}
-use Rattle.onig_match.specs.Machine.{subject, kept, chain, cell_todo, undone, captures_at, resumed, carried, ran_of, with_entry, rank}
-use Rattle.onig_match.specs.Sound.{IsRest, IsCell, AreCells, IsResume, AreEntries, IsTaken, AreTaken, AreChanges, IsSound, IsStep, Leads, AddsCell}
+use Rattle.onig_match.specs.Machine.{subject, kept, chain, cell_todo, undone, captures_at, resumed, carried, ran_of}
+use Rattle.onig_match.specs.Machine.{with_entry, rank}
+use Rattle.onig_match.specs.Sound.{IsRest, IsCell, AreCells, IsResume, AreEntries, IsTaken, AreTaken, AreChanges}
+use Rattle.onig_match.specs.Sound.{IsSound, IsStep, HasRoom, SameRooms, Leads, AddsCell}
 use Rattle.onig_match.proofs.Carries.{chain-older, chain-newest, todo_of-older, carry-cell, carry-entry}
 
 -- what holds of the parts
@@ -28,8 +31,16 @@ IsRest-widen tree a b rest is h = record { list = is.list; next = omega (arith, 
 pub AreEntries-widen : (tree : Tree) (chars a b c d : ℕ) (entries : List Entry) →
     AreEntries tree chars a c entries → a ≤ b → c ≤ d → AreEntries tree chars b d entries
 AreEntries-widen tree chars a b c d [] are h k = tt
-AreEntries-widen tree chars a b c d (entry ∷ entries) are h k =
-    (record { below = omega (arith, are.0.below); before = omega (arith, are.0.before); at = are.0.at; resume = are.0.resume }, are.1)
+AreEntries-widen tree chars a b c d (entry ∷ entries) are h k = (
+  record {
+    below = omega (arith, are.0.below);
+    before = omega (arith, are.0.before);
+    at = are.0.at;
+    resume =
+        are.0.resume;
+  },
+  are.1,
+)
 
 pub AreCells-drop : (tree : Tree) (chars k : ℕ) (cells : List Cell) → AreCells tree chars cells →
     AreCells tree chars (drop k cells)
@@ -52,7 +63,8 @@ AreTaken-set chars (x ∷ xs) (suc n) taken are is = (are.0, AreTaken-set chars 
 pub AreTaken-get : (chars : ℕ) (captures : Captures) (n : ℕ) (taken : Option Place) → AreTaken chars captures →
     slice_get captures n ≡ Some taken → IsTaken chars taken
 AreTaken-get chars [] n taken are e = cc
-AreTaken-get chars (x ∷ xs) zero taken are e = let same : x ≡ taken = cc in subst (λ (v : Option Place). IsTaken chars v) same are.0
+AreTaken-get chars (x ∷ xs) zero taken are e = let same : x ≡ taken =
+    cc in subst (λ (v : Option Place). IsTaken chars v) same are.0
 AreTaken-get chars (x ∷ xs) (suc n) taken are e = AreTaken-get chars xs n taken are.1 e
 
 pub AreTaken-undone : (tree : Tree) (chars k : ℕ) (trail : List Change) (captures : Captures) →
@@ -72,15 +84,21 @@ length-undone (suc k) (change ∷ trail) captures =
 
 -- a cell by its number
 
-cell_todo-older : (lists : NodeLists) (tree : Tree) (chars below : ℕ) (newest : Cell) (cells : List Cell) (cell : Cell) → IsCell tree chars below cell → below ≤ length cells → cell_todo lists (newest ∷ cells) cell ≡ cell_todo lists cells cell
-cell_todo-older lists tree chars below newest cells (Nodes rest) is h = todo_of-older lists newest cells rest (omega (arith, is.next))
+cell_todo-older : (lists : NodeLists) (tree : Tree) (chars below : ℕ) (newest : Cell) (cells : List Cell)
+    (cell : Cell) → IsCell tree chars below cell → below ≤ length cells → cell_todo lists (newest ∷ cells) cell
+    ≡ cell_todo lists cells cell
+cell_todo-older lists tree chars below newest cells (Nodes rest) is h =
+    todo_of-older lists newest cells rest (omega (arith, is.next))
 cell_todo-older lists tree chars below newest cells (GroupEnd group from rest) is h =
-    ap (λ (todo : List Todo). Close group from ∷ todo) (todo_of-older lists newest cells rest (omega (arith, is.2.next)))
+    ap (λ (todo : List Todo). Close group from ∷ todo)
+    (todo_of-older lists newest cells rest (omega (arith, is.2.next)))
 cell_todo-older lists tree chars below newest cells (Iteration repeat count begun rest) is h =
-    ap (λ (todo : List Todo). Again repeat.body repeat.least repeat.most repeat.greedy count begun ∷ todo) (todo_of-older lists newest cells rest (omega (arith, is.2.next)))
+    ap (λ (todo : List Todo). Again repeat.body repeat.least repeat.most repeat.greedy count begun ∷ todo)
+    (todo_of-older lists newest cells rest (omega (arith, is.2.next)))
 
 -- what a cell that was read stands for
-pub record IsRead (lists : NodeLists) (tree : Tree) (chars : ℕ) (cells : List Cell) (number : ℕ) (cell : Cell) : Type 0 where
+pub record IsRead (lists : NodeLists) (tree : Tree) (chars : ℕ) (cells : List Cell) (number : ℕ) (cell : Cell) : Type
+    0 where
   pub stands : chain lists cells number ≡ cell_todo lists cells cell
   pub is : IsCell tree chars (number - 1) cell
 
@@ -94,11 +112,13 @@ cell_read lists tree chars (newest ∷ cells) zero number cell are e many h =
     let below : length cells ≡ number - 1 = omega arith in
     let is : IsCell tree chars (length cells) newest = are.0 in
     let stands : chain lists (newest ∷ cells) number ≡ cell_todo lists (newest ∷ cells) newest =
-    chain-newest lists newest cells number last ∙ sym (cell_todo-older lists tree chars (length cells) newest cells newest is (omega arith)) in
+    chain-newest lists newest cells number last
+    ∙ sym (cell_todo-older lists tree chars (length cells) newest cells newest is (omega arith)) in
     subst (λ (v : Cell). IsRead lists tree chars (newest ∷ cells) number v) same
     (record { stands = stands; is = subst (λ (b : ℕ). IsCell tree chars b newest) below is })
 cell_read lists tree chars (newest ∷ cells) (suc k) number cell are e many h =
-    let older : IsRead lists tree chars cells number cell = cell_read lists tree chars cells k number cell are.1 e (omega arith) h in
+    let older : IsRead lists tree chars cells number cell =
+    cell_read lists tree chars cells k number cell are.1 e (omega arith) h in
     record {
       stands = chain-older lists newest cells number (omega arith) ∙ older.stands
           ∙ sym (cell_todo-older lists tree chars (number - 1) newest cells cell older.is (omega arith));
@@ -108,7 +128,8 @@ cell_read lists tree chars (newest ∷ cells) (suc k) number cell are e many h =
 pub cell_at : (lists : NodeLists) (tree : Tree) (chars : ℕ) (cells : List Cell) (number : ℕ) (cell : Cell) →
     AreCells tree chars cells → 0 < number → number ≤ length cells →
     slice_get cells (length cells - number) ≡ Some cell → IsRead lists tree chars cells number cell
-cell_at lists tree chars cells number cell are h low e = cell_read lists tree chars cells (length cells - number) number cell are e (omega arith) h
+cell_at lists tree chars cells number cell are h low e =
+    cell_read lists tree chars cells (length cells - number) number cell are e (omega arith) h
 
 -- after a cell is added
 
@@ -131,12 +152,15 @@ pub AddsCell-new : (on : Searched) (area : Area) (cell : Cell) (cells : Piled Ce
     AddsCell on area (record { captures = area.captures; cells = cells; entries = area.entries; trail = area.trail })
 AddsCell-new on area cell cells sound is e =
     rw e (record {
-      carries = λ ran. carry-cell (subject on) on.pattern.now (length on.text.now) cell area.cells.items area.trail.items area.captures.items area.entries.items ran sound.entries;
+      carries = λ ran. carry-cell (subject on) on.pattern.now (length on.text.now) cell area.cells.items
+          area.trail.items area.captures.items area.entries.items ran sound.entries;
       sound = record {
         groups = sound.groups;
         captures = sound.captures;
         cells = (is, sound.cells);
-        entries = AreEntries-widen on.pattern.now (length on.text.now) (length area.cells.items) (suc (length area.cells.items)) (length area.trail.items) (length area.trail.items) area.entries.items sound.entries (omega arith) (omega arith);
+        entries = AreEntries-widen on.pattern.now (length on.text.now) (length area.cells.items)
+            (suc (length area.cells.items)) (length area.trail.items) (length area.trail.items) area.entries.items
+            sound.entries (omega arith) (omega arith);
         trail = sound.trail;
       };
       captures = refl;
@@ -155,33 +179,15 @@ rank_small (Go point) = omega arith
 rank_small (Found at) = omega arith
 rank_small Failed = omega arith
 
--- where at most a cell was added
-pub lead_added : (on : Searched) (old area : Area) (answer : ℕ → Ran) (result : Step) → AddsCell on old area →
-    IsStep on (length area.cells.items) result → ((left : ℕ) →
-    carried (subject on) area (ran_of (subject on) area result left) ≡ answer left) →
-    Leads on 1 old answer area result
-lead_added on old area answer result adds step ends = record {
-  ends = ends;
-  sound = adds.sound;
-  step = step;
-  room = λ left has. record {
-    cells = omega (arith, has.cells, adds.at_most, adds.room);
-    entries = rw adds.entries (omega (arith, has.entries));
-    trail = rw adds.trail (omega (arith, has.trail));
-    small = omega (arith, has.small, adds.room);
-  };
-  rooms = record {
-    captures = ap (λ (p : Piled (Option Place)). p.room) adds.captures;
-    cells = adds.room;
-    entries = ap (λ (p : Piled Entry). p.room) adds.entries;
-    trail = ap (λ (p : Piled Change). p.room) adds.trail;
-  };
-  falls = rw adds.entries (omega (arith, rank_small result));
-}
-
 -- the entry that is made at a place
 abbrev pub made : Area → Resume → ℕ → Entry
-made area resume at = record { resume = resume; at = at; cells = length area.cells.items; trail = length area.trail.items }
+made area resume at = record {
+  resume = resume;
+  at = at;
+  cells = length area.cells.items;
+  trail =
+      length area.trail.items;
+}
 
 pub sound_entered : (on : Searched) (area : Area) (resume : Resume) (at : ℕ) → IsSound on area →
     at ≤ length on.text.now → IsResume on.pattern.now (length area.cells.items) resume →
@@ -194,36 +200,75 @@ sound_entered on area resume at sound there is = record {
   trail = sound.trail;
 }
 
--- where then an entry was made
-pub lead_entered : (on : Searched) (old area : Area) (answer : ℕ → Ran) (resume : Resume) (at : ℕ) (result : Step) →
-    AddsCell on old area → at ≤ length on.text.now → IsResume on.pattern.now (length area.cells.items) resume →
-    IsStep on (length area.cells.items) result → ((left : ℕ) →
-    carried (subject on) area (resumed (subject on) area.cells.items area.captures.items resume at (ran_of (subject on) area result left)) ≡ answer left) → Leads on 1 old answer (with_entry area (made area resume at)) result
-lead_entered on old area answer resume at result adds there is step ends = record {
-  ends = λ left.
-      carry-entry (subject on) area.cells.items area.trail.items area.captures.items (made area resume at) area.entries.items
-      (ran_of (subject on) (with_entry area (made area resume at)) result left) refl refl ∙ ends left;
-  sound = sound_entered on area resume at adds.sound there is;
-  step = step;
-  room = λ left has. record {
-    cells = omega (arith, has.cells, adds.at_most, adds.room);
-    entries = rw adds.entries (omega (arith, has.entries));
-    trail = rw adds.trail (omega (arith, has.trail));
-    small = omega (arith, has.small, adds.room);
-  };
-  rooms = record {
+-- how a step leads on where at most a cell was added
+module _ (on : Searched) (old area : Area) (answer : ℕ → Ran) where
+  -- there is room for a visit less, and for one entry
+  fits : AddsCell on old area → (left : ℕ) → HasRoom old (left + 1) →
+      HasRoom area left × (length area.entries.items + 1 + left ≤ area.entries.room)
+  fits adds left has = (
+    record {
+      cells = omega (arith, has.cells, adds.at_most, adds.room);
+      entries = rw adds.entries (omega (arith, has.entries));
+      trail = rw adds.trail (omega (arith, has.trail));
+      small = omega (arith, has.small, adds.room);
+    },
+    rw adds.entries (omega (arith, has.entries)),
+  )
+
+  same_rooms : AddsCell on old area → SameRooms old area
+  same_rooms adds = record {
     captures = ap (λ (p : Piled (Option Place)). p.room) adds.captures;
     cells = adds.room;
     entries = ap (λ (p : Piled Entry). p.room) adds.entries;
     trail = ap (λ (p : Piled Change). p.room) adds.trail;
-  };
-  falls = rw adds.entries (omega (arith, rank_small result));
-}
+  }
+
+  pub lead_added : (result : Step) → AddsCell on old area → IsStep on (length area.cells.items) result →
+      ((left : ℕ) → carried (subject on) area (ran_of (subject on) area result left) ≡ answer left) →
+      Leads on 1 old answer area result
+  lead_added result adds step ends = record {
+    ends = ends;
+    sound = adds.sound;
+    step = step;
+    room = λ left has. (fits adds left has).0;
+    rooms = same_rooms adds;
+    falls = rw adds.entries (omega (arith, rank_small result));
+  }
+
+  -- and then an entry was made
+  pub lead_entered : (resume : Resume) (at : ℕ) (result : Step) → AddsCell on old area →
+      at ≤ length on.text.now → IsResume on.pattern.now (length area.cells.items) resume →
+      IsStep on (length area.cells.items) result →
+      ((left : ℕ) → carried (subject on) area (resumed (subject on) area.cells.items area.captures.items resume at
+      (ran_of (subject on) area result left)) ≡ answer left) →
+      Leads on 1 old answer (with_entry area (made area resume at)) result
+  lead_entered resume at result adds there is step ends = record {
+    ends = λ left.
+        carry-entry (subject on) area.cells.items area.trail.items area.captures.items (made area resume at)
+        area.entries.items (ran_of (subject on) (with_entry area (made area resume at)) result left) refl refl
+        ∙ ends left;
+    sound = sound_entered on area resume at adds.sound there is;
+    step = step;
+    room = λ left has. record {
+      cells = (fits adds left has).0.cells;
+      entries = omega (arith, (fits adds left has).1);
+      trail = (fits adds left has).0.trail;
+      small = (fits adds left has).0.small;
+    };
+    rooms = record {
+      captures = (same_rooms adds).captures;
+      cells = adds.room;
+      entries = (same_rooms adds).entries;
+      trail = (same_rooms adds).trail;
+    };
+    falls = rw adds.entries (omega (arith, rank_small result));
+  }
 
 -- going back over one change
 
 pub record GoesBack (height : ℕ) (trail older : List Change) (captures : Captures) (change : Change) : Type 0 where
-  pub captures_stay : captures_at height older (slice_set captures change.number change.old) ≡ captures_at height trail captures
+  pub captures_stay : captures_at height older (slice_set captures change.number change.old)
+      ≡ captures_at height trail captures
   pub kept_stay : kept height older ≡ kept height trail
 
 pub goes_back : (height : ℕ) (trail older : List Change) (captures : Captures) (change : Change) →

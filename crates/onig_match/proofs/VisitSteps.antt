@@ -6,7 +6,8 @@ use Rattle.pattern_defs.specs.declared.nodes.ListId.{ListId}
 use Rattle.pattern_defs.specs.declared.nodes.PatNode.TheVariants.{Choice, Group, Ahead, Atomic}
 use Rattle.pattern_defs.specs.declared.outcomes.Place.{Place}
 use Rattle.pattern_defs.specs.Patterns.{NodeLists}
-use Rattle.pattern_defs.specs.Attempt.{Subject, Todo, Node, Close, Again, Ran, Hit, Miss, Spent, before, or_else, repeats, is_greatest}
+use Rattle.pattern_defs.specs.Attempt.{Todo, Node, Close, Again, Ran, Hit, Miss, Spent, before, or_else}
+use Rattle.pattern_defs.specs.Attempt.{repeats, is_greatest}
 use Rattle.onig_match.specs.declared.cells.Rest.{Rest}
 use Rattle.onig_match.specs.declared.cells.NodeAt.{NodeAt}
 use Rattle.onig_match.specs.declared.cells.Repeated.{Repeated}
@@ -21,7 +22,8 @@ use Rattle.onig_match.specs.Piles.{Piled}
 use Rattle.onig_match.specs.Machine.{subject, chain, todo_of, cell_todo, carried, with_entry, acted, ids_at}
 use Rattle.onig_match.specs.Sound.{IsSound, IsHere, Leads, AddsCell, Takes}
 use Rattle.onig_match.proofs.Carries.{chain-zero, chain-newest, carry-change}
-use Rattle.onig_match.proofs.Steps.{IsRest-widen, AreEntries-widen, AreTaken-set, AreTaken-get, AddsCell-none, AddsCell-new, made, lead_added, lead_entered}
+use Rattle.onig_match.proofs.Steps.{IsRest-widen, AreEntries-widen, AreTaken-set, AreTaken-get, AddsCell-none}
+use Rattle.onig_match.proofs.Steps.{AddsCell-new, made, lead_added, lead_entered}
 
 or_else_miss : (ran : Ran) → or_else ran (λ left. Miss left) ≡ ran
 or_else_miss (Hit at captures left) = refl
@@ -50,92 +52,109 @@ start_alone lists cells list = rw (chain-zero lists cells) refl
 -- repeats
 
 abbrev pub more_cells : Area → Repeated → ℕ → Rest → ℕ → Piled Cell
-more_cells old repeat count rest at = record { room = old.cells.room; items = Iteration repeat (count + 1) at rest ∷ old.cells.items }
+more_cells old repeat count rest at = record
+    { room = old.cells.room; items = Iteration repeat (count + 1) at rest ∷ old.cells.items }
 
 abbrev pub with_cells : Area → Piled Cell → Area
 with_cells old cells = record { captures = old.captures; cells = cells; entries = old.entries; trail = old.trail }
 
-more_adds : (on : Searched) (old : Area) (repeat : Repeated) (count : ℕ) (rest : Rest) (at : ℕ) →
-    IsHere on old rest at → repeat.body.0 < length on.pattern.now.lists → count ≤ length old.cells.items →
-    AddsCell on old (with_cells old (more_cells old repeat count rest at))
-more_adds on old repeat count rest at here body low =
-    AddsCell-new on old (Iteration repeat (count + 1) at rest) (more_cells old repeat count rest at) here.sound (body, omega arith, here.inside) refl
-
-more_todo : (on : Searched) (old : Area) (repeat : Repeated) (count : ℕ) (rest : Rest) (at : ℕ) →
-    todo_of on.pattern.now.lists (more_cells old repeat count rest at).items (start repeat.body (suc (length old.cells.items))) ≡ before on.pattern.now.lists repeat.body (Again repeat.body repeat.least repeat.most repeat.greedy (count + 1) at ∷ todo_of on.pattern.now.lists old.cells.items rest)
-more_todo on old repeat count rest at = start_todo on.pattern.now.lists (Iteration repeat (count + 1) at rest) old.cells.items repeat.body
-
 abbrev pub again : Repeated → ℕ → ℕ → Todo
 again repeat count begun = Again repeat.body repeat.least repeat.most repeat.greedy count begun
 
-pub lead_below : (on : Searched) (old : Area) (repeat : Repeated) (count begun : ℕ) (rest : Rest) (at : ℕ) →
-    IsHere on old rest at → repeat.body.0 < length on.pattern.now.lists → count ≤ length old.cells.items →
-    (nat_lt 0 count && (at == begun)) ≡ false → nat_lt count repeat.least ≡ true →
-    Leads on 1 old (acted on old (again repeat count begun) rest at) (with_cells old (more_cells old repeat count rest at)) (Go (record { rest = start repeat.body (suc (length old.cells.items)); at = at }))
-lead_below on old repeat count begun rest at here body low stuck below =
-    let s : Subject = subject on in
-    let adds : AddsCell on old (with_cells old (more_cells old repeat count rest at)) = more_adds on old repeat count rest at here body low in
-    let inner : (left : ℕ) → goes s (todo_of on.pattern.now.lists (more_cells old repeat count rest at).items (start repeat.body (suc (length old.cells.items)))) at old.captures.items left
-    ≡ repeats s (goes s) repeat.body repeat.least repeat.most repeat.greedy count begun (todo_of on.pattern.now.lists old.cells.items rest) at old.captures.items left =
-    λ left. rw (more_todo on old repeat count rest at, stuck, below) (sym (or_else_miss _)) in
-    lead_added on old (with_cells old (more_cells old repeat count rest at)) (acted on old (again repeat count begun) rest at)
-    (Go (record { rest = start repeat.body (suc (length old.cells.items)); at = at })) adds
-    (record { list = body; next = omega arith }, here.there)
-    (λ left. adds.carries _ ∙ ap (λ (ran : Ran). carried s old ran) (inner left))
+-- for a repeat that goes on, and whose next iteration got a cell
+module _ (on : Searched) (old : Area) (repeat : Repeated) (count begun : ℕ) (rest : Rest) (at : ℕ)
+    (here : IsHere on old rest at) (body : repeat.body.0 < length on.pattern.now.lists)
+    (low : count ≤ length old.cells.items) (stuck : (nat_lt 0 count && (at == begun)) ≡ false) where
+  abbrev grown : Area
+  grown = with_cells old (more_cells old repeat count rest at)
 
-pub lead_greedy : (on : Searched) (old : Area) (repeat : Repeated) (count begun : ℕ) (rest : Rest) (at : ℕ) →
-    IsHere on old rest at → repeat.body.0 < length on.pattern.now.lists → count ≤ length old.cells.items →
-    (nat_lt 0 count && (at == begun)) ≡ false → nat_lt count repeat.least ≡ false →
-    is_greatest repeat.most count ≡ false → repeat.greedy ≡ true →
-    Leads on 1 old (acted on old (again repeat count begun) rest at) (with_entry (with_cells old (more_cells old repeat count rest at)) (made (with_cells old (more_cells old repeat count rest at)) (Other rest) at)) (Go (record { rest = start repeat.body (suc (length old.cells.items)); at = at }))
-lead_greedy on old repeat count begun rest at here body low stuck below most greedy =
-    let s : Subject = subject on in
-    let area : Area = with_cells old (more_cells old repeat count rest at) in
-    let adds : AddsCell on old area = more_adds on old repeat count rest at here body low in
-    let later : todo_of on.pattern.now.lists area.cells.items rest ≡ todo_of on.pattern.now.lists old.cells.items rest = adds.stands on.pattern.now.lists rest here.inside in
-    let inner : (left : ℕ) → or_else (goes s (todo_of on.pattern.now.lists area.cells.items (start repeat.body (suc (length old.cells.items)))) at old.captures.items left)
-    (λ left'. goes s (todo_of on.pattern.now.lists area.cells.items rest) at old.captures.items left')
-    ≡ repeats s (goes s) repeat.body repeat.least repeat.most repeat.greedy count begun (todo_of on.pattern.now.lists old.cells.items rest) at old.captures.items left =
-    λ left. rw (more_todo on old repeat count rest at, later, stuck, below, most, greedy)
-    (sym (or_else_two (goes s (before on.pattern.now.lists repeat.body (Again repeat.body repeat.least repeat.most true (count + 1) at ∷ todo_of on.pattern.now.lists old.cells.items rest)) at old.captures.items left)
-    (λ left'. goes s (todo_of on.pattern.now.lists old.cells.items rest) at old.captures.items left'))) in
-    lead_entered on old area (acted on old (again repeat count begun) rest at) (Other rest) at
-    (Go (record { rest = start repeat.body (suc (length old.cells.items)); at = at })) adds here.there
-    (IsRest-widen on.pattern.now (length old.cells.items) (length area.cells.items) rest here.inside (omega arith))
-    (record { list = body; next = omega arith }, here.there)
-    (λ left. adds.carries _ ∙ ap (λ (ran : Ran). carried s old ran) (inner left))
+  -- one iteration more
+  abbrev inner : Rest
+  inner = start repeat.body (suc (length old.cells.items))
 
-pub lead_lazy : (on : Searched) (old : Area) (repeat : Repeated) (count begun : ℕ) (rest : Rest) (at : ℕ) →
-    IsHere on old rest at → repeat.body.0 < length on.pattern.now.lists → count ≤ length old.cells.items →
-    (nat_lt 0 count && (at == begun)) ≡ false → nat_lt count repeat.least ≡ false →
-    is_greatest repeat.most count ≡ false → repeat.greedy ≡ false →
-    Leads on 1 old (acted on old (again repeat count begun) rest at) (with_entry (with_cells old (more_cells old repeat count rest at)) (made (with_cells old (more_cells old repeat count rest at)) (Other (start repeat.body (suc (length old.cells.items)))) at)) (Go (record { rest = rest; at = at }))
-lead_lazy on old repeat count begun rest at here body low stuck below most greedy =
-    let s : Subject = subject on in
-    let area : Area = with_cells old (more_cells old repeat count rest at) in
-    let adds : AddsCell on old area = more_adds on old repeat count rest at here body low in
-    let later : todo_of on.pattern.now.lists area.cells.items rest ≡ todo_of on.pattern.now.lists old.cells.items rest = adds.stands on.pattern.now.lists rest here.inside in
-    let inner : (left : ℕ) → or_else (goes s (todo_of on.pattern.now.lists area.cells.items rest) at old.captures.items left)
-    (λ left'. goes s (todo_of on.pattern.now.lists area.cells.items (start repeat.body (suc (length old.cells.items)))) at old.captures.items left')
-    ≡ repeats s (goes s) repeat.body repeat.least repeat.most repeat.greedy count begun (todo_of on.pattern.now.lists old.cells.items rest) at old.captures.items left =
-    λ left. rw (more_todo on old repeat count rest at, later, stuck, below, most, greedy)
-    (sym (or_else_two (goes s (todo_of on.pattern.now.lists old.cells.items rest) at old.captures.items left)
-    (λ left'. goes s (before on.pattern.now.lists repeat.body (Again repeat.body repeat.least repeat.most false (count + 1) at ∷ todo_of on.pattern.now.lists old.cells.items rest)) at old.captures.items left'))) in
-    lead_entered on old area (acted on old (again repeat count begun) rest at) (Other (start repeat.body (suc (length old.cells.items)))) at
-    (Go (record { rest = rest; at = at })) adds here.there
-    (record { list = body; next = omega arith })
-    (IsRest-widen on.pattern.now (length old.cells.items) (length area.cells.items) rest here.inside (omega arith), here.there)
-    (λ left. adds.carries _ ∙ ap (λ (ran : Ran). carried s old ran) (inner left))
+  abbrev later_todo : List Todo
+  later_todo = todo_of on.pattern.now.lists old.cells.items rest
+
+  abbrev inner_todo : List Todo
+  inner_todo = before on.pattern.now.lists repeat.body (again repeat (count + 1) at ∷ later_todo)
+
+  adds : AddsCell on old grown
+  adds = AddsCell-new on old (Iteration repeat (count + 1) at rest) (more_cells old repeat count rest at) here.sound
+      (body, omega arith, here.inside) refl
+
+  inner_is : todo_of on.pattern.now.lists grown.cells.items inner ≡ inner_todo
+  inner_is = start_todo on.pattern.now.lists (Iteration repeat (count + 1) at rest) old.cells.items repeat.body
+
+  later_is : todo_of on.pattern.now.lists grown.cells.items rest ≡ later_todo
+  later_is = adds.stands on.pattern.now.lists rest here.inside
+
+  -- what the definition does at the repeat
+  abbrev repeated : ℕ → Ran
+  repeated left =
+      repeats (subject on) (goes (subject on)) repeat.body repeat.least repeat.most repeat.greedy count begun later_todo
+      at old.captures.items left
+
+  abbrev goes_inner : ℕ → Ran
+  goes_inner left = goes (subject on) inner_todo at old.captures.items left
+
+  abbrev goes_later : ℕ → Ran
+  goes_later left = goes (subject on) later_todo at old.captures.items left
+
+  pub lead_below : nat_lt count repeat.least ≡ true →
+      Leads on 1 old (acted on old (again repeat count begun) rest at) grown (Go (record { rest = inner; at = at }))
+  lead_below below =
+      let same : (left : ℕ) → goes (subject on) (todo_of on.pattern.now.lists grown.cells.items inner) at
+      old.captures.items left ≡ repeated left =
+      λ left. rw (inner_is, stuck, below) (sym (or_else_miss _)) in
+      lead_added on old grown (acted on old (again repeat count begun) rest at) (Go (record { rest = inner; at = at }))
+      adds (record { list = body; next = omega arith }, here.there)
+      (λ left. adds.carries _ ∙ ap (λ (ran : Ran). carried (subject on) old ran) (same left))
+
+  pub lead_greedy : nat_lt count repeat.least ≡ false → is_greatest repeat.most count ≡ false →
+      repeat.greedy ≡ true →
+      Leads on 1 old (acted on old (again repeat count begun) rest at) (with_entry grown (made grown (Other rest) at))
+      (Go (record { rest = inner; at = at }))
+  lead_greedy below most greedy =
+      let same : (left : ℕ) → or_else (goes (subject on) (todo_of on.pattern.now.lists grown.cells.items inner) at
+      old.captures.items left)
+      (λ left'. goes (subject on) (todo_of on.pattern.now.lists grown.cells.items rest) at old.captures.items left')
+      ≡ repeated left =
+      λ left. rw (inner_is, later_is, stuck, below, most, greedy) (sym (or_else_two _ goes_later)) in
+      lead_entered on old grown (acted on old (again repeat count begun) rest at) (Other rest) at
+      (Go (record { rest = inner; at = at })) adds here.there
+      (IsRest-widen on.pattern.now (length old.cells.items) (length grown.cells.items) rest here.inside (omega arith))
+      (record { list = body; next = omega arith }, here.there)
+      (λ left. adds.carries _ ∙ ap (λ (ran : Ran). carried (subject on) old ran) (same left))
+
+  pub lead_lazy : nat_lt count repeat.least ≡ false → is_greatest repeat.most count ≡ false →
+      repeat.greedy ≡ false →
+      Leads on 1 old (acted on old (again repeat count begun) rest at) (with_entry grown (made grown (Other inner) at))
+      (Go (record { rest = rest; at = at }))
+  lead_lazy below most greedy =
+      let same : (left : ℕ) → or_else (goes (subject on) (todo_of on.pattern.now.lists grown.cells.items rest) at
+      old.captures.items left)
+      (λ left'. goes (subject on) (todo_of on.pattern.now.lists grown.cells.items inner) at old.captures.items left')
+      ≡ repeated left =
+      λ left. rw (inner_is, later_is, stuck, below, most, greedy) (sym (or_else_two (goes_later left) _)) in
+      lead_entered on old grown (acted on old (again repeat count begun) rest at) (Other inner) at
+      (Go (record { rest = rest; at = at })) adds here.there (record { list = body; next = omega arith }) (
+        IsRest-widen on.pattern.now (length old.cells.items) (length grown.cells.items) rest here.inside (omega arith),
+        here.there,
+      )
+      (λ left. adds.carries _ ∙ ap (λ (ran : Ran). carried (subject on) old ran) (same left))
 
 -- groups
 
 pub lead_group : (on : Searched) (old : Area) (group : ℕ) (list : ListId) (rest : Rest) (at : ℕ) →
     IsHere on old rest at → group ≤ on.pattern.now.groups → list.0 < length on.pattern.now.lists →
-    Leads on 1 old (acted on old (Node (Group group list)) rest at) (with_cells old (record { room = old.cells.room; items = GroupEnd group at rest ∷ old.cells.items })) (Go (record { rest = start list (suc (length old.cells.items)); at = at }))
+    Leads on 1 old (acted on old (Node (Group group list)) rest at)
+    (with_cells old (record { room = old.cells.room; items = GroupEnd group at rest ∷ old.cells.items }))
+    (Go (record { rest = start list (suc (length old.cells.items)); at = at }))
 lead_group on old group list rest at here numbered inside =
     let cell : Cell = GroupEnd group at rest in
     let cells : Piled Cell = record { room = old.cells.room; items = cell ∷ old.cells.items } in
-    let adds : AddsCell on old (with_cells old cells) = AddsCell-new on old cell cells here.sound (numbered, here.there, here.inside) refl in
+    let adds : AddsCell on old (with_cells old cells) =
+    AddsCell-new on old cell cells here.sound (numbered, here.there, here.inside) refl in
     lead_added on old (with_cells old cells) (acted on old (Node (Group group list)) rest at)
     (Go (record { rest = start list (suc (length old.cells.items)); at = at })) adds
     (record { list = inside; next = omega arith }, here.there)
@@ -149,13 +168,21 @@ lead_taken on old new group from rest at here numbered early takes =
     let taken : Option Place = Some (record { from = from; to = at }) in
     let was : IsSound on old = here.sound in
     rw takes.now (record {
-      ends = λ left. carry-change (subject on) on.pattern.now (length on.text.now) old.cells.items group takes.before taken old.trail.items old.captures.items old.entries.items _ was.entries takes.was;
+      ends = λ left. carry-change (subject on) on.pattern.now (length on.text.now) old.cells.items group takes.before
+          taken old.trail.items old.captures.items old.entries.items _ was.entries takes.was;
       sound = record {
         groups = length-set old.captures.items group taken ∙ was.groups;
         captures = AreTaken-set (length on.text.now) old.captures.items group taken was.captures (early, here.there);
         cells = was.cells;
-        entries = AreEntries-widen on.pattern.now (length on.text.now) (length old.cells.items) (length old.cells.items) (length old.trail.items) (suc (length old.trail.items)) old.entries.items was.entries (omega arith) (omega arith);
-        trail = (numbered, AreTaken-get (length on.text.now) old.captures.items group takes.before was.captures takes.was, was.trail);
+        entries = AreEntries-widen on.pattern.now (length on.text.now) (length old.cells.items)
+            (length old.cells.items) (length old.trail.items) (suc (length old.trail.items)) old.entries.items
+            was.entries (omega arith) (omega arith);
+        trail = (
+          numbered,
+          AreTaken-get (length on.text.now) old.captures.items group takes.before was.captures
+              takes.was,
+          was.trail,
+        );
       };
       step = (here.inside, here.there);
       room = λ left has. record {
@@ -172,7 +199,8 @@ lead_taken on old new group from rest at here numbered early takes =
 
 pub lead_ahead : (on : Searched) (old : Area) (list : ListId) (wanted : Bool) (rest : Rest) (at : ℕ) →
     IsHere on old rest at → list.0 < length on.pattern.now.lists →
-    Leads on 1 old (acted on old (Node (Ahead list wanted)) rest at) (with_entry old (made old (AfterAhead wanted rest) at)) (Go (record { rest = start list 0; at = at }))
+    Leads on 1 old (acted on old (Node (Ahead list wanted)) rest at)
+    (with_entry old (made old (AfterAhead wanted rest) at)) (Go (record { rest = start list 0; at = at }))
 lead_ahead on old list wanted rest at here inside =
     lead_entered on old old (acted on old (Node (Ahead list wanted)) rest at) (AfterAhead wanted rest) at
     (Go (record { rest = start list 0; at = at })) (AddsCell-none on old here.sound) here.there here.inside
@@ -181,7 +209,8 @@ lead_ahead on old list wanted rest at here inside =
 
 pub lead_atomic : (on : Searched) (old : Area) (list : ListId) (rest : Rest) (at : ℕ) → IsHere on old rest at →
     list.0 < length on.pattern.now.lists →
-    Leads on 1 old (acted on old (Node (Atomic list)) rest at) (with_entry old (made old (AfterAtomic rest) at)) (Go (record { rest = start list 0; at = at }))
+    Leads on 1 old (acted on old (Node (Atomic list)) rest at) (with_entry old (made old (AfterAtomic rest) at))
+    (Go (record { rest = start list 0; at = at }))
 lead_atomic on old list rest at here inside =
     lead_entered on old old (acted on old (Node (Atomic list)) rest at) (AfterAtomic rest) at
     (Go (record { rest = start list 0; at = at })) (AddsCell-none on old here.sound) here.there here.inside
@@ -194,8 +223,10 @@ pub lead_choice : (on : Searched) (old area : Area) (node : NodeAt) (next : ℕ)
     IsHere on old rest at → node.list.0 < length on.pattern.now.lists → AddsCell on old area →
     next ≤ length area.cells.items →
     chain on.pattern.now.lists area.cells.items next ≡ todo_of on.pattern.now.lists old.cells.items rest →
-    Leads on 1 old (acted on old (Node (Choice (ids_at on.pattern.now.lists node))) rest at) (with_entry area (made area (Alternatives node 0 next) at)) Failed
+    Leads on 1 old (acted on old (Node (Choice (ids_at on.pattern.now.lists node))) rest at)
+    (with_entry area (made area (Alternatives node 0 next) at)) Failed
 lead_choice on old area node next rest at here inside adds low stands =
-    lead_entered on old area (acted on old (Node (Choice (ids_at on.pattern.now.lists node))) rest at) (Alternatives node 0 next) at
+    lead_entered on old area (acted on old (Node (Choice (ids_at on.pattern.now.lists node))) rest at)
+    (Alternatives node 0 next) at
     Failed adds here.there (inside, low) tt
     (λ left. adds.carries _ ∙ rw (stands, adds.captures) refl)

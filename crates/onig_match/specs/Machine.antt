@@ -1,12 +1,14 @@
 -- What the stack of an attempt stands for: what is still to match, and what is done with an end of the list in hand.
-use Rattle.std.specs.Prelude.{ℕ, suc, ◌+◌, ◌-◌, ◌==◌, List, [], ◌∷◌, ◌++◌, length, map, take, drop, Bool, true, false, Option, Some, None, slice_get, slice_set}
+use Rattle.std.specs.Prelude.{ℕ, suc, ◌+◌, ◌-◌, ◌==◌, List, [], ◌∷◌, ◌++◌, length, map, take, drop, Bool, true, false}
+use Rattle.std.specs.Prelude.{Option, Some, None, slice_get, slice_set}
 use Rattle.pattern_defs.specs.declared.nodes.ListId.{ListId}
 use Rattle.pattern_defs.specs.declared.nodes.Arm.{Arm}
 use Rattle.pattern_defs.specs.declared.nodes.PatNode.{PatNode}
 use Rattle.pattern_defs.specs.declared.nodes.PatNode.TheVariants.{Choice, Behind}
 use Rattle.pattern_defs.specs.declared.outcomes.Place.{Place}
 use Rattle.pattern_defs.specs.Patterns.{NodeLists, nodes_of}
-use Rattle.pattern_defs.specs.Attempt.{Subject, Captures, Todo, Node, Close, Again, Ran, Hit, Miss, Spent, before, or_else, tries, looked, arms_run, kept_whole, act, stands_again}
+use Rattle.pattern_defs.specs.Attempt.{Subject, Captures, Todo, Node, Close, Again, Ran, Hit, Miss, Spent, before}
+use Rattle.pattern_defs.specs.Attempt.{or_else, tries, looked, arms_run, kept_whole, act, stands_again}
 use Rattle.onig_match.specs.declared.cells.Rest.{Rest}
 use Rattle.onig_match.specs.declared.cells.NodeAt.{NodeAt}
 use Rattle.onig_match.specs.declared.cells.Cell.{Cell}
@@ -15,7 +17,8 @@ use Rattle.onig_match.specs.declared.cells.Front.{Front}
 use Rattle.onig_match.specs.declared.cells.Front.TheVariants.{AtEnd, AtNode, AtGroupEnd, AtIteration}
 use Rattle.onig_match.specs.declared.entries.Change.{Change}
 use Rattle.onig_match.specs.declared.entries.Resume.{Resume}
-use Rattle.onig_match.specs.declared.entries.Resume.TheVariants.{Other, Alternatives, AfterAhead, AfterBehind, AfterAtomic}
+use Rattle.onig_match.specs.declared.entries.Resume.TheVariants.{Other, Alternatives, AfterAhead, AfterBehind}
+use Rattle.onig_match.specs.declared.entries.Resume.TheVariants.{AfterAtomic}
 use Rattle.onig_match.specs.declared.entries.Entry.{Entry}
 use Rattle.onig_match.specs.declared.entries.End.{End}
 use Rattle.onig_match.specs.declared.entries.End.TheVariants as ends
@@ -45,7 +48,8 @@ nodes_from lists rest = map Node (drop rest.index (nodes_of lists rest.list))
 abbrev pub chain : NodeLists → List Cell → ℕ → List Todo
 chain lists [] number = []
 chain lists (Nodes rest ∷ older) number =
-    pick (number == suc (length older)) (nodes_from lists rest ++ chain lists older rest.next) (chain lists older number)
+    pick (number == suc (length older)) (nodes_from lists rest ++ chain lists older rest.next)
+    (chain lists older number)
 chain lists (GroupEnd group from rest ∷ older) number =
     pick (number == suc (length older)) (Close group from ∷ (nodes_from lists rest ++ chain lists older rest.next))
     (chain lists older number)
@@ -98,15 +102,18 @@ captures_at height trail captures = undone (take (length trail - height) trail) 
 
 -- what is done at an entry with an end of what was tried above it
 abbrev pub resumed : Subject → List Cell → Captures → Resume → ℕ → Ran → Ran
-resumed s cells captures (Other rest) at ran = or_else ran (λ left. goes s (todo_of s.lists cells rest) at captures left)
+resumed s cells captures (Other rest) at ran =
+    or_else ran (λ left. goes s (todo_of s.lists cells rest) at captures left)
 resumed s cells captures (Alternatives node way next) at ran =
     or_else ran
-    (λ left. tries (goes s) (map (λ id. before s.lists id (chain s.lists cells next)) (drop way (ids_at s.lists node))) at
+    (λ left. tries (goes s) (map (λ id. before s.lists id (chain s.lists cells next))
+    (drop way (ids_at s.lists node))) at
     captures left)
 resumed s cells captures (AfterAhead wanted rest) at ran =
     looked wanted ran (goes s) (todo_of s.lists cells rest) at captures
 resumed s cells captures (AfterBehind node arm wanted rest) at ran =
-    looked wanted (or_else ran (λ left. arms_run s (goes s) (drop arm (arms_at s.lists node)) at captures left)) (goes s)
+    looked wanted (or_else ran (λ left. arms_run s (goes s) (drop arm (arms_at s.lists node)) at captures left))
+    (goes s)
     (todo_of s.lists cells rest) at captures
 resumed s cells captures (AfterAtomic rest) at ran = kept_whole ran (goes s) (todo_of s.lists cells rest)
 
@@ -130,7 +137,10 @@ abbrev pub means : Subject → Area → Step → ℕ → Ran
 means s area step left = carried s area (ran_of s area step left)
 
 abbrev pub with_entry : Area → Entry → Area
-with_entry area entry = record area { entries = record { room = area.entries.room; items = entry ∷ area.entries.items } }
+with_entry area entry = record area {
+  entries =
+      record { room = area.entries.room; items = entry ∷ area.entries.items };
+}
 
 -- how the attempt ends by what is done at the first of what is still to match
 abbrev pub acted : Searched → Area → Todo → Rest → ℕ → ℕ → Ran
@@ -153,7 +163,8 @@ behind_node here = record { list = here.list; next = here.next; index = here.ind
 -- where a back reference leads
 abbrev pub step_back : Bool → List ℕ → Option Place → Rest → ℕ → Step
 step_back fold text None rest at = Failed
-step_back fold text (Some taken) rest at = step_where (stands_again fold text taken at) rest (at + (taken.to - taken.from))
+step_back fold text (Some taken) rest at =
+    step_where (stands_again fold text taken at) rest (at + (taken.to - taken.from))
 
 abbrev pub end_of : Ran → End
 end_of (Hit at captures left) = ends.Found at

@@ -1,5 +1,6 @@
 -- What holds of the stack of an attempt at each step.
-use Rattle.std.specs.Prelude.{◌≡◌, ℕ, ◌+◌, ◌*◌, ◌^◌, ◌<◌, ◌≤◌, List, [], ◌∷◌, length, drop, filter, nat_le, Option, Some, None, slice_get, slice_set}
+use Rattle.std.specs.Prelude.{◌≡◌, ℕ, ◌+◌, ◌*◌, ◌^◌, ◌<◌, ◌≤◌, List, [], ◌∷◌, length, drop, filter, nat_le, Option}
+use Rattle.std.specs.Prelude.{Some, None, slice_get, slice_set}
 use Rattle.pattern_defs.specs.declared.nodes.Arm.{Arm}
 use Rattle.pattern_defs.specs.declared.outcomes.Place.{Place}
 use Rattle.pattern_defs.specs.Patterns.{NodeLists, Tree, nodes_of}
@@ -11,7 +12,8 @@ use Rattle.onig_match.specs.declared.cells.Front.{Front}
 use Rattle.onig_match.specs.declared.cells.Front.TheVariants.{AtEnd, AtNode, AtGroupEnd, AtIteration}
 use Rattle.onig_match.specs.declared.entries.Change.{Change}
 use Rattle.onig_match.specs.declared.entries.Resume.{Resume}
-use Rattle.onig_match.specs.declared.entries.Resume.TheVariants.{Other, Alternatives, AfterAhead, AfterBehind, AfterAtomic}
+use Rattle.onig_match.specs.declared.entries.Resume.TheVariants.{Other, Alternatives, AfterAhead, AfterBehind}
+use Rattle.onig_match.specs.declared.entries.Resume.TheVariants.{AfterAtomic}
 use Rattle.onig_match.specs.declared.entries.Entry.{Entry}
 use Rattle.onig_match.specs.declared.entries.Step.{Step}
 use Rattle.onig_match.specs.declared.entries.Step.TheVariants.{Go, Found, Failed}
@@ -80,7 +82,8 @@ pub record IsSound (on : Searched) (area : Area) : Type 0 where
   pub captures : AreTaken (length on.text.now) area.captures.items
   pub cells : AreCells on.pattern.now (length on.text.now) area.cells.items
   pub entries :
-      AreEntries on.pattern.now (length on.text.now) (length area.cells.items) (length area.trail.items) area.entries.items
+      AreEntries on.pattern.now (length on.text.now) (length area.cells.items) (length area.trail.items)
+      area.entries.items
   pub trail : AreChanges on.pattern.now (length on.text.now) area.trail.items
 
 abbrev pub IsStep : Searched → ℕ → Step → Type 0

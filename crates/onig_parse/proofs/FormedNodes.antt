@@ -1,5 +1,6 @@
 -- Nodes that stand for items which are well formed.
-use Rattle.std.proofs.Common.{◌≡◌, ℕ, ◌<◌, ◌≤◌, nat_lt, nat_le, ◌&&◌, List, [], ◌∷◌, map, Bool, true, false, cond, Option, Some, None, refl, arith}
+use Rattle.std.proofs.Common.{◌≡◌, ℕ, ◌<◌, ◌≤◌, nat_lt, nat_le, ◌&&◌, List, [], ◌∷◌, map, Bool, true, false, cond}
+use Rattle.std.proofs.Common.{Option, Some, None, refl, arith}
 use Rattle.std.specs.Prelude.{find}
 use Rattle.std.proofs.lemmas.Bool.Decides.{nat_tests}
 use Rattle.pattern_defs.specs.declared.nodes.ListId.{ListId}
@@ -10,7 +11,8 @@ use Rattle.syntax_defs.specs.declared.items.GroupName.{GroupName}
 use Rattle.syntax_defs.specs.declared.items.Target.{Target}
 use Rattle.syntax_defs.specs.declared.items.Target.TheVariants as targets
 use Rattle.syntax_defs.specs.declared.items.Item.{Item}
-use Rattle.syntax_defs.specs.declared.items.Item.TheVariants.{One, At, Choice, Group, Repeat, Ahead, Behind, Atomic, Back}
+use Rattle.syntax_defs.specs.declared.items.Item.TheVariants.{One, At, Choice, Group, Repeat, Ahead, Behind, Atomic}
+use Rattle.syntax_defs.specs.declared.items.Item.TheVariants.{Back}
 use Rattle.syntax_defs.specs.Lengths.{group_of, number_of_name}
 use Rattle.syntax_defs.specs.PatternSyntax.{Parsed, is_named}
 use Rattle.syntax_defs.specs.PatternMeaning.{FitsItem, FitsItems, arm_of}
@@ -22,15 +24,19 @@ if-some : (b : Bool) (n m : ℕ) → cond b (Some n) None ≡ Some m → (b ≡ 
 if-some true n m e = (refl, cc)
 if-some false n m e = absurd (cc)
 
-named-there : (groups : ℕ) (test : GroupName → Bool) (names : List GroupName) (number : ℕ) → AreNames groups names → number_of_name (find test names) ≡ Some number → (0 < number) × (number ≤ groups)
+named-there : (groups : ℕ) (test : GroupName → Bool) (names : List GroupName) (number : ℕ) → AreNames groups names
+    → number_of_name (find test names) ≡ Some number → (0 < number) × (number ≤ groups)
 named-there groups test [] number are e = absurd (cc)
 named-there groups test (known ∷ names) number are e = go (test known) e (named-there groups test names number are.2)
   where
-    go : (b : Bool) → number_of_name (cond b (Some known) (find test names)) ≡ Some number → (number_of_name (find test names) ≡ Some number → (0 < number) × (number ≤ groups)) → (0 < number) × (number ≤ groups)
+    go : (b : Bool) → number_of_name (cond b (Some known) (find test names)) ≡ Some number
+        → (number_of_name (find test names) ≡ Some number → (0 < number) × (number ≤ groups)) → (0 < number)
+        × (number ≤ groups)
     go true found rest = let same : known.number ≡ number = cc in rw (← same) (are.0, are.1)
     go false found rest = rest found
 
-pub group_of-there : (text : List ℕ) (p : Parsed) (target : Target) (number : ℕ) → AreNames p.groups p.names → group_of text p target ≡ Some number → (0 < number) × (number ≤ p.groups)
+pub group_of-there : (text : List ℕ) (p : Parsed) (target : Target) (number : ℕ) → AreNames p.groups p.names
+    → group_of text p target ≡ Some number → (0 < number) × (number ≤ p.groups)
 group_of-there text p (targets.Number n) number are e =
     let found = if-some (nat_lt 0 n && nat_le n p.groups) n number e in
     let test : nat_lt 0 n && nat_le n p.groups ≡ true = found.0 in
@@ -44,19 +50,25 @@ AllArms-of : (n : ℕ) (ls : List (Option ℕ)) (ids : List ListId) → AllIds n
 AllArms-of n ls [] all = tt
 AllArms-of n ls (id ∷ ids) all = (all.0, AllArms-of n ls ids all.1)
 
-IsNode-fits : (text : List ℕ) (p : Parsed) (ls : List (Option ℕ)) (n : ℕ) (node : PatNode) (item : Item) → AreNames p.groups p.names → IsItem text n p.groups item → FitsItem text p ls node item → IsNode n p.groups node
+IsNode-fits : (text : List ℕ) (p : Parsed) (ls : List (Option ℕ)) (n : ℕ) (node : PatNode) (item : Item)
+    → AreNames p.groups p.names → IsItem text n p.groups item → FitsItem text p ls node item → IsNode n p.groups node
 IsNode-fits text p ls n (nodes.One set) (One at options depth) names is fits = tt
 IsNode-fits text p ls n (nodes.At anchor) (At wanted) names is fits = tt
 IsNode-fits text p ls n (nodes.Choice ids) (Choice wanted) names is fits = rw fits is
 IsNode-fits text p ls n (nodes.Group number body) (Group k id) names is fits = rw (fits.0, fits.1) is
-IsNode-fits text p ls n (nodes.Repeat body least most greedy) (Repeat id k m g) names is fits = rw (fits.0, fits.1, fits.2) is
+IsNode-fits text p ls n (nodes.Repeat body least most greedy) (Repeat id k m g) names is fits =
+    rw (fits.0, fits.1, fits.2) is
 IsNode-fits text p ls n (nodes.Ahead body wanted) (Ahead id w) names is fits = rw (fits.0) is
-IsNode-fits text p ls n (nodes.Behind arms wanted) (Behind at ids w) names is fits = rw (fits.0) (AllArms-of n ls ids is)
+IsNode-fits text p ls n (nodes.Behind arms wanted) (Behind at ids w) names is fits =
+    rw (fits.0) (AllArms-of n ls ids is)
 IsNode-fits text p ls n (nodes.Atomic body) (Atomic id) names is fits = rw fits is
-IsNode-fits text p ls n (nodes.Back number fold) (Back at target f) names is fits = group_of-there text p target number names fits.0
+IsNode-fits text p ls n (nodes.Back number fold) (Back at target f) names is fits =
+    group_of-there text p target number names fits.0
 IsNode-fits text p ls n _ _ names is fits = absurd fits
 
-pub AreNodes-fit : (text : List ℕ) (p : Parsed) (ls : List (Option ℕ)) (n : ℕ) (nodes : List PatNode) (items : List Item) → AreNames p.groups p.names → AreItems text n p.groups items → FitsItems text p ls nodes items → AreNodes n p.groups nodes
+pub AreNodes-fit : (text : List ℕ) (p : Parsed) (ls : List (Option ℕ)) (n : ℕ) (nodes : List PatNode)
+    (items : List Item) → AreNames p.groups p.names → AreItems text n p.groups items → FitsItems text p ls nodes items
+    → AreNodes n p.groups nodes
 AreNodes-fit text p ls n [] [] names are fits = tt
 AreNodes-fit text p ls n [] (item ∷ items) names are fits = absurd fits
 AreNodes-fit text p ls n (node ∷ nodes) [] names are fits = absurd fits

@@ -4,7 +4,8 @@ use Rattle.std.proofs.lemmas.List.{length_push}
 use Rattle.pattern_defs.specs.declared.nodes.ListId.{ListId}
 use Rattle.pattern_defs.specs.Patterns.{AllIds, RiseFrom}
 use Rattle.syntax_defs.specs.declared.items.Item.{Item}
-use Rattle.syntax_defs.specs.PatternSyntax.{Seen, Body, at_place, with_list, next_id, open_items, with_item, after_bar, empty_body}
+use Rattle.syntax_defs.specs.PatternSyntax.{Seen, Body, at_place, with_list, next_id, open_items, with_item}
+use Rattle.syntax_defs.specs.PatternSyntax.{after_bar, empty_body}
 use Rattle.onig_parse.specs.Formed.{AreItems, AreItemLists, AreNames}
 use Rattle.pattern_tree.proofs.ListLemmas.{AllIds-widen}
 use Rattle.onig_parse.proofs.ListLemmas.{AllIds-push, RiseFrom-push}
@@ -56,11 +57,13 @@ grows_both s t u first second = record {
   groups = let a = first.groups in let b = second.groups in omega arith;
 }
 
-pub FormedItems-before : (text : List ℕ) (before begun : Seen) (items : List Item) (s : Seen) → Grows before begun → FormedItems text begun items s → FormedItems text before items s
+pub FormedItems-before : (text : List ℕ) (before begun : Seen) (items : List Item) (s : Seen) → Grows before begun
+    → FormedItems text begun items s → FormedItems text before items s
 FormedItems-before text before begun items s grows are =
     record { seen = are.seen; formed = are.formed; grows = grows_both before begun s grows are.grows }
 
-pub FormedBody-widen : (text : List ℕ) (b : Body) (s later : Seen) → Grows s later → FormedBody text b s → FormedBody text b later
+pub FormedBody-widen : (text : List ℕ) (b : Body) (s later : Seen) → Grows s later → FormedBody text b s
+    → FormedBody text b later
 FormedBody-widen text b s later grows body = record {
   ended = AllIds-widen _ _ b.ended grows.lists body.ended;
   rise = body.rise;
@@ -78,7 +81,8 @@ at_place-seen text place s seen = record {
   names = seen.names;
 }
 
-pub at_place-part : (text : List ℕ) (begun : Seen) (place : ℕ) (b : Body) (s : Seen) → FormedPart text begun b s → FormedPart text begun b (at_place place s)
+pub at_place-part : (text : List ℕ) (begun : Seen) (place : ℕ) (b : Body) (s : Seen) → FormedPart text begun b s
+    → FormedPart text begun b (at_place place s)
 at_place-part text begun place b s part = record {
   seen = at_place-seen text place s part.seen;
   body = record { ended = part.body.ended; rise = part.body.rise; done = part.body.done; last = part.body.last };
@@ -86,7 +90,8 @@ at_place-part text begun place b s part = record {
 }
 
 -- one item that names nothing, and the place behind it
-pub one_here : (text : List ℕ) (place : ℕ) (item : Item) (s : Seen) → FormedSeen text s → AreItems text (length s.lists) s.groups (item ∷ []) → FormedItems text s (item ∷ []) (at_place place s)
+pub one_here : (text : List ℕ) (place : ℕ) (item : Item) (s : Seen) → FormedSeen text s
+    → AreItems text (length s.lists) s.groups (item ∷ []) → FormedItems text s (item ∷ []) (at_place place s)
 one_here text place item s seen are = record {
   seen = at_place-seen text place s seen;
   formed = are;
@@ -104,7 +109,8 @@ next_id-below s list = omega (arith, length_more s list)
 pub with_list-grows : (s : Seen) (list : List Item) → Grows s (with_list list s)
 with_list-grows s list = record { lists = omega (arith, length_more s list); groups = omega arith }
 
-pub with_list-seen : (text : List ℕ) (list : List Item) (s : Seen) → FormedSeen text s → AreItems text (length s.lists) s.groups list → FormedSeen text (with_list list s)
+pub with_list-seen : (text : List ℕ) (list : List Item) (s : Seen) → FormedSeen text s
+    → AreItems text (length s.lists) s.groups list → FormedSeen text (with_list list s)
 with_list-seen text list s seen are = record {
   same = seen.same;
   place = seen.place;
@@ -112,45 +118,65 @@ with_list-seen text list s seen are = record {
   names = seen.names;
 }
 
-pub with_list-part : (text : List ℕ) (begun : Seen) (list : List Item) (b : Body) (s : Seen) → FormedPart text begun b s → AreItems text (length s.lists) s.groups list → FormedPart text begun b (with_list list s)
+pub with_list-part : (text : List ℕ) (begun : Seen) (list : List Item) (b : Body) (s : Seen)
+    → FormedPart text begun b s → AreItems text (length s.lists) s.groups list
+    → FormedPart text begun b (with_list list s)
 with_list-part text begun list b s part are = record {
   seen = with_list-seen text list s part.seen are;
   body = FormedBody-widen text b s _ (with_list-grows s list) part.body;
   grows = grows_both begun s _ part.grows (with_list-grows s list);
 }
 
-pub ids_more : (s : Seen) (list : List Item) (ids : List ListId) → AllIds (length s.lists) ids → AllIds (length (with_list list s).lists) (ids ++ next_id s ∷ [])
+pub ids_more : (s : Seen) (list : List Item) (ids : List ListId) → AllIds (length s.lists) ids
+    → AllIds (length (with_list list s).lists) (ids ++ next_id s ∷ [])
 ids_more s list ids all =
     AllIds-push _ ids (next_id s) (AllIds-widen _ _ ids (omega (arith, length_more s list)) all) (next_id-below s list)
 
-pub ids_rise : (s : Seen) (ids : List ListId) → AllIds (length s.lists) ids → RiseFrom 0 ids → RiseFrom 0 (ids ++ next_id s ∷ [])
+pub ids_rise : (s : Seen) (ids : List ListId) → AllIds (length s.lists) ids → RiseFrom 0 ids
+    → RiseFrom 0 (ids ++ next_id s ∷ [])
 ids_rise s ids all rise = RiseFrom-push 0 ids (next_id s) rise (behind_within (length s.lists) 0 ids (omega arith) all)
 
 -- bodies
 
 pub empty_part : (text : List ℕ) (s : Seen) → FormedSeen text s → FormedPart text s empty_body s
-empty_part text s seen = record { seen = seen; body = record { ended = tt; rise = tt; done = tt; last = tt }; grows = grows_none s }
+empty_part text s seen = record {
+  seen = seen;
+  body = record { ended = tt; rise = tt; done = tt; last = tt };
+  grows =
+      grows_none s;
+}
 
-pub last-part : (text : List ℕ) (begun : Seen) (last : List Item) (repeats : Option ℕ) (b : Body) (s : Seen) → FormedPart text begun b s → AreItems text (length s.lists) s.groups last → FormedPart text begun (record b { last = last; repeats = repeats }) s
+pub last-part : (text : List ℕ) (begun : Seen) (last : List Item) (repeats : Option ℕ) (b : Body) (s : Seen)
+    → FormedPart text begun b s → AreItems text (length s.lists) s.groups last
+    → FormedPart text begun (record b { last = last; repeats = repeats }) s
 last-part text begun last repeats b s part are = record {
   seen = part.seen;
   body = record { ended = part.body.ended; rise = part.body.rise; done = part.body.done; last = are };
   grows = part.grows;
 }
 
-pub with_item-part : (text : List ℕ) (begun : Seen) (b : Body) (s : Seen) (items : List Item) (later : Seen) → FormedPart text begun b s → FormedItems text s items later → FormedPart text begun (with_item items b) later
+pub with_item-part : (text : List ℕ) (begun : Seen) (b : Body) (s : Seen) (items : List Item) (later : Seen)
+    → FormedPart text begun b s → FormedItems text s items later → FormedPart text begun (with_item items b) later
 with_item-part text begun b s items later part are =
     let wide = FormedBody-widen text b s later are.grows part.body in
     record {
       seen = are.seen;
-      body = record { ended = wide.ended; rise = wide.rise; done = AreItems-append text _ _ b.done b.last wide.done wide.last; last = are.formed };
+      body = record {
+        ended = wide.ended;
+        rise = wide.rise;
+        done =
+            AreItems-append text _ _ b.done b.last wide.done wide.last;
+        last = are.formed;
+      };
       grows = grows_both begun s later part.grows are.grows;
     }
 
-pub open_items-formed : (text : List ℕ) (b : Body) (s : Seen) → FormedBody text b s → AreItems text (length s.lists) s.groups (open_items b)
+pub open_items-formed : (text : List ℕ) (b : Body) (s : Seen) → FormedBody text b s
+    → AreItems text (length s.lists) s.groups (open_items b)
 open_items-formed text b s body = AreItems-append text _ _ b.done b.last body.done body.last
 
-pub after_bar-part : (text : List ℕ) (begun : Seen) (b : Body) (s : Seen) → FormedPart text begun b s → FormedPart text begun (after_bar b s) (with_list (open_items b) s)
+pub after_bar-part : (text : List ℕ) (begun : Seen) (b : Body) (s : Seen) → FormedPart text begun b s
+    → FormedPart text begun (after_bar b s) (with_list (open_items b) s)
 after_bar-part text begun b s part =
     let more = with_list-part text begun (open_items b) b s part (open_items-formed text b s part.body) in
     record {

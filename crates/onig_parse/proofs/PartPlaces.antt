@@ -1,7 +1,8 @@
 -- What is read so far ends in the text, and its items have places in it.
 use Rattle.std.proofs.Common.{◌≡◌, ℕ, ◌+◌, ◌<◌, ◌≤◌, List, [], ◌∷◌, ◌++◌, length, Bool, true, false, arith}
 use Rattle.syntax_defs.specs.declared.items.Item.{Item}
-use Rattle.syntax_defs.specs.declared.items.Item.TheVariants.{One, At, Choice, Group, Repeat, Ahead, Behind, Atomic, Back}
+use Rattle.syntax_defs.specs.declared.items.Item.TheVariants.{One, At, Choice, Group, Repeat, Ahead, Behind, Atomic}
+use Rattle.syntax_defs.specs.declared.items.Item.TheVariants.{Back}
 use Rattle.syntax_defs.specs.PatternSyntax.{Seen, Body, Stepped, at_place, with_list, open_items, with_item}
 
 -- a text of so many characters, and what is asked of the places of its items
@@ -30,11 +31,13 @@ abbrev pub ListsPlaced : Extent → List (List Item) → Type 0
 ListsPlaced t [] = Unit {0}
 ListsPlaced t (items ∷ lists) = ArePlaced t items × ListsPlaced t lists
 
-ArePlaced-append : (t : Extent) (items later : List Item) → ArePlaced t items → ArePlaced t later → ArePlaced t (items ++ later)
+ArePlaced-append : (t : Extent) (items later : List Item) → ArePlaced t items → ArePlaced t later
+    → ArePlaced t (items ++ later)
 ArePlaced-append t [] later are more = more
 ArePlaced-append t (item ∷ items) later are more = (are.0, ArePlaced-append t items later are.1 more)
 
-ListsPlaced-push : (t : Extent) (lists : List (List Item)) (items : List Item) → ListsPlaced t lists → ArePlaced t items → ListsPlaced t (lists ++ items ∷ [])
+ListsPlaced-push : (t : Extent) (lists : List (List Item)) (items : List Item) → ListsPlaced t lists
+    → ArePlaced t items → ListsPlaced t (lists ++ items ∷ [])
 ListsPlaced-push t [] items are new = (new, tt)
 ListsPlaced-push t (first ∷ lists) items are new = (are.0, ListsPlaced-push t lists items are.1 new)
 
@@ -83,15 +86,19 @@ at_place-placed t place s seen = record {
 }
 
 -- further on, behind a place before the text's end
-pub at_place-from : (t : Extent) (begin place : ℕ) (s : Seen) → PlacedSeen t s → begin < t.end → begin < place → SeenFrom t (begin + 1) (at_place place s)
-at_place-from t begin place s seen h on = record { seen = at_place-placed t place s seen; on = let whole = seen.whole in omega arith }
+pub at_place-from : (t : Extent) (begin place : ℕ) (s : Seen) → PlacedSeen t s → begin < t.end → begin < place
+    → SeenFrom t (begin + 1) (at_place place s)
+at_place-from t begin place s seen h on =
+    record { seen = at_place-placed t place s seen; on = let whole = seen.whole in omega arith }
 
-pub with_list-placed : (t : Extent) (items : List Item) (s : Seen) → PlacedSeen t s → ArePlaced t items → PlacedSeen t (with_list items s)
+pub with_list-placed : (t : Extent) (items : List Item) (s : Seen) → PlacedSeen t s → ArePlaced t items
+    → PlacedSeen t (with_list items s)
 with_list-placed t items s seen are =
     record { whole = seen.whole; place = seen.place; lists = ListsPlaced-push t s.lists items seen.lists are }
 
 pub open_items-placed : (t : Extent) (b : Body) → PlacedBody t b → ArePlaced t (open_items b)
 open_items-placed t b body = ArePlaced-append t b.done b.last body.done body.last
 
-pub with_item-placed : (t : Extent) (items : List Item) (b : Body) → PlacedBody t b → ArePlaced t items → PlacedBody t (with_item items b)
+pub with_item-placed : (t : Extent) (items : List Item) (b : Body) → PlacedBody t b → ArePlaced t items
+    → PlacedBody t (with_item items b)
 with_item-placed t items b body are = record { done = open_items-placed t b body; last = are }

@@ -9,12 +9,15 @@ abbrev pub Within : {A : Type 0} → (end : ℕ) → (A → Type 0) → Result A
 Within end P (Ok x) = P x
 Within end P (Err fault) = FitsText end fault
 
-pub Within-bind : {A B : Type 0} (end : ℕ) (P : A → Type 0) (Q : B → Type 0) (read : Result A Fault) (next : A → Result B Fault) → Within end P read → ((x : A) → P x → Within end Q (next x)) → Within end Q (read >>= next)
+pub Within-bind : {A B : Type 0} (end : ℕ) (P : A → Type 0) (Q : B → Type 0) (read : Result A Fault)
+    (next : A → Result B Fault) → Within end P read → ((x : A) → P x → Within end Q (next x))
+    → Within end Q (read >>= next)
 Within-bind end P Q (Ok x) next holds then_next = then_next x holds
 Within-bind end P Q (Err fault) next holds then_next = holds
 
 -- what is read behind it, where two readings agree on all that may stand before
-pub bind_same : {A B : Type 0} (end : ℕ) (P : A → Type 0) (read : Result A Fault) (f g : A → Result B Fault) → Within end P read → ((x : A) → P x → f x ≡ g x) → (read >>= f) ≡ (read >>= g)
+pub bind_same : {A B : Type 0} (end : ℕ) (P : A → Type 0) (read : Result A Fault) (f g : A → Result B Fault)
+    → Within end P read → ((x : A) → P x → f x ≡ g x) → (read >>= f) ≡ (read >>= g)
 bind_same end P (Ok x) f g holds same = same x holds
 bind_same end P (Err fault) f g fits same = refl
 

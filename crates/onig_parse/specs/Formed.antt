@@ -5,7 +5,8 @@ use Rattle.syntax_defs.specs.Limits.{most_levels}
 use Rattle.syntax_defs.specs.declared.items.GroupName.{GroupName}
 use Rattle.syntax_defs.specs.declared.items.Options.{Options}
 use Rattle.syntax_defs.specs.declared.items.Item.{Item}
-use Rattle.syntax_defs.specs.declared.items.Item.TheVariants.{One, At, Choice, Group, Repeat, Ahead, Behind, Atomic, Back}
+use Rattle.syntax_defs.specs.declared.items.Item.TheVariants.{One, At, Choice, Group, Repeat, Ahead, Behind, Atomic}
+use Rattle.syntax_defs.specs.declared.items.Item.TheVariants.{Back}
 use Rattle.syntax_defs.specs.Reading.{Fault, Read}
 use Rattle.syntax_defs.specs.Singles.{single_at}
 use Rattle.syntax_defs.specs.PatternSyntax.{Parsed}

@@ -25,4 +25,10 @@ abbrev pub body_of : body.Inside → Body
 body_of b = record { ended = b.ended; done = b.done.items; last = b.last.items; repeats = b.repeats }
 
 abbrev pub parsed_of : parsed.Inside → Parsed
-parsed_of p = record { lists = map (λ items. items.items) p.lists.items; top = p.top; groups = p.groups; names = p.names.items }
+parsed_of p = record {
+  lists = map (λ items. items.items) p.lists.items;
+  top = p.top;
+  groups = p.groups;
+  names =
+      p.names.items;
+}

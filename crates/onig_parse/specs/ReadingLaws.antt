@@ -1,6 +1,7 @@
 -- Laws of reading a pattern text: what a fault tells of its text, that no reading stops for want of steps, and what a
 -- text without signs is.
-use Rattle.std.specs.Prelude.{◌≡◌, ◌⊎◌, ℕ, ◌+◌, ◌<◌, ◌≤◌, ◌==◌, List, [], ◌∷◌, codes, length, drop, get_or, Bool, true, false, Ok, Err}
+use Rattle.std.specs.Prelude.{◌≡◌, ◌⊎◌, ℕ, ◌+◌, ◌<◌, ◌≤◌, ◌==◌, List, [], ◌∷◌, codes, length, drop, get_or, Bool}
+use Rattle.std.specs.Prelude.{true, false, Ok, Err}
 use Rattle.std.specs.List.{list_any}
 use Rattle.syntax_defs.specs.declared.items.Options.{Options}
 use Rattle.syntax_defs.specs.declared.items.Item.{Item}
@@ -26,7 +27,8 @@ EachFaultFitsItsText = (text : List ℕ) (fault : Fault) → read_pattern text �
 -- a step behind which the body goes on has taken a character
 abbrev pub EachStepTakesACharacter : Type 0
 EachStepTakesACharacter =
-    (levels : ℕ) (options : Options) (b : Body) (s : Seen) (r : Stepped) → step (body_at levels) levels options b s ≡ Ok r →
+    (levels : ℕ) (options : Options) (b : Body) (s : Seen) (r : Stepped) → step (body_at levels) levels options b s
+    ≡ Ok r →
     r.more ≡ true → length (rest_of r.seen) < length (rest_of s)
 
 -- so more steps than characters that are left are enough: with any more the same is read
@@ -38,7 +40,8 @@ StepsSuffice =
 -- the same of the members of a class, one of which may be a class
 abbrev pub EachMemberTakesACharacter : Type 0
 EachMemberTakesACharacter =
-    (fold : Bool) (place : ℕ) (rest : List ℕ) (x : Read (ℕ → Bool)) → member_at fold place rest ≡ Ok x → length x.rest < length rest
+    (fold : Bool) (place : ℕ) (rest : List ℕ) (x : Read (ℕ → Bool)) → member_at fold place rest ≡ Ok x
+    → length x.rest < length rest
 
 abbrev pub EachClassTakesACharacter : Type 0
 EachClassTakesACharacter =
@@ -48,7 +51,8 @@ EachClassTakesACharacter =
 abbrev pub MembersSuffice : Type 0
 MembersSuffice =
     (levels most more : ℕ) (fold first : Bool) (sides : Sides) (place : ℕ) (rest : List ℕ) → length rest < most →
-    members_at (class_within levels fold) fold first most sides place rest ≡ members_at (class_within levels fold) fold first (most + more) sides place rest
+    members_at (class_within levels fold) fold first most sides place rest
+    ≡ members_at (class_within levels fold) fold first (most + more) sides place rest
 
 -- the characters that have a meaning of their own outside of classes
 abbrev pub is_sign : ℕ → Bool
@@ -67,7 +71,8 @@ plain_text text = record { lists = ones_from 0 text ∷ []; top = record { 0 = 0
 abbrev pub TakesEach : List ℕ → Type 0
 TakesEach text =
     (at : ℕ) → at < length text →
-    single_at no_options 0 at (drop at text) ≡ Ok (record { value = is_char_folded false (get_or text at 0); place = at + 1; rest = drop (at + 1) text })
+    single_at no_options 0 at (drop at text)
+    ≡ Ok (record { value = is_char_folded false (get_or text at 0); place = at + 1; rest = drop (at + 1) text })
 
 abbrev pub PlainTextsAreRead : Type 0
 PlainTextsAreRead =

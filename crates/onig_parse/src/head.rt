@@ -1,4 +1,4 @@
-ghost use Rattle.std.specs.Prelude.{◌≡◌, ◌+◌, ◌≤◌, drop, length, IfOk};
+ghost use Rattle.std.specs.Prelude.{◌≡◌, ◌+◌, ◌*◌, ◌≤◌, drop, length, IfOk};
 ghost use Rattle.std.specs.Char.{is_ascii_digit};
 ghost use Rattle.std.specs.List.{list_all};
 ghost use Rattle.syntax_defs.specs.Reading.{Answers};
@@ -119,10 +119,10 @@ fn closed_word(
     word: &[char],
     rest: &[char],
 ) -> Result<Span, PatternRefusal>
-    requires from { from ≤ 100_000 }
+    requires from { from ≤ most_pattern_chars + 3 }
     requires word { length word.now ≤ most_pattern_chars }
     ensures place { Answers (λ x. x) result (closed_word close item.begin item.end from word.now rest.now) }
-    ensures inside { IfOk result (λ span. span.to ≤ 200_000) }
+    ensures inside { IfOk result (λ span. span.to ≤ 2 * most_pattern_chars + 3) }
 {
     match rest {
         [] => Err(item.open()),
@@ -136,10 +136,10 @@ fn closed_word(
 
 /// The place of the name that begins at `from`, up to the character that closes it.
 fn name_at(item: Extent, close: char, from: usize, cs: &[char]) -> Result<Span, PatternRefusal>
-    requires from { from ≤ 100_000 }
+    requires from { from ≤ most_pattern_chars + 3 }
     requires short { length cs.now ≤ most_pattern_chars }
     ensures place { Answers (λ x. x) result (word_at is_name close item.begin item.end from cs.now) }
-    ensures inside { IfOk result (λ span. span.to ≤ 200_000) }
+    ensures inside { IfOk result (λ span. span.to ≤ 2 * most_pattern_chars + 3) }
 {
     let (word, rest) = split_word(cs);
     if is_name(word) {
@@ -156,10 +156,10 @@ pub(crate) fn target_at(
     from: usize,
     cs: &[char],
 ) -> Result<Span, PatternRefusal>
-    requires from { from ≤ 100_000 }
+    requires from { from ≤ most_pattern_chars + 3 }
     requires short { length cs.now ≤ most_pattern_chars }
     ensures place { Answers (λ x. x) result (word_at is_name_or_number close item.begin item.end from cs.now) }
-    ensures inside { IfOk result (λ span. span.to ≤ 200_000) }
+    ensures inside { IfOk result (λ span. span.to ≤ 2 * most_pattern_chars + 3) }
 {
     let (word, rest) = split_word(cs);
     if is_name(word) || is_number(word) {

@@ -5,7 +5,7 @@ ghost use Rattle.syntax_defs.specs.Sights.{begins_with, brace_sight, behind_digi
 ghost use Rattle.syntax_defs.specs.Limits.{most_pattern_chars};
 
 use pattern_defs::Anchor;
-use syntax_defs::{Bounds, Form, Options, Sight};
+use syntax_defs::{Bounds, Form, GREATER_COUNT, Options, Sight};
 
 /// Whether this character stands at the front.
 pub(crate) fn begins_with(c: char, cs: &[char]) -> bool
@@ -38,7 +38,7 @@ fn with_digit(n: u32, c: char) -> u32
     ensures { result ≡ with_digit n c }
 {
     let digit = (c as u32).saturating_sub(48);
-    (u64::from(n) * 10 + u64::from(digit)).min(1_000_000) as u32
+    (u64::from(n) * 10 + u64::from(digit)).min(u64::from(GREATER_COUNT)) as u32
 }
 
 /// The number of these digits.

@@ -2,7 +2,7 @@ use char_sets::{CharSet, NamedSets};
 use onig_class::{Escaped, dot, one_char, read_class, read_escape};
 use std::alloc::{AllocError, Global};
 use std::test::Fail;
-use syntax_defs::PatternRefusal;
+use syntax_defs::{MOST_LEVELS, MOST_PATTERN_CHARS, PatternRefusal};
 
 fn refusal_shown(alloc: Global, refusal: PatternRefusal) -> Result<String, AllocError> {
     match refusal {
@@ -33,7 +33,7 @@ fn class_shown(
     depth: u32,
 ) -> Result<String, AllocError> {
     let text: Vec<char> = text.chars().collect(alloc)?;
-    if text.len() > 65_536 || depth > 100 || text.get(0).copied() != Some('[') {
+    if text.len() > MOST_PATTERN_CHARS || depth > MOST_LEVELS || text.get(0).copied() != Some('[') {
         return format!(in alloc; "no class");
     }
     let mut sets = NamedSets::new(alloc);
@@ -45,7 +45,7 @@ fn class_shown(
 
 fn escape_shown(alloc: Global, text: &str, chars: &str) -> Result<String, AllocError> {
     let text: Vec<char> = text.chars().collect(alloc)?;
-    if text.len() > 65_536 || text.get(0).copied() != Some('\\') {
+    if text.len() > MOST_PATTERN_CHARS || text.get(0).copied() != Some('\\') {
         return format!(in alloc; "no escape");
     }
     let mut sets = NamedSets::new(alloc);

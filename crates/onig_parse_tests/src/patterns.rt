@@ -5,6 +5,7 @@ use pattern_tree::Pattern;
 use std::alloc::{AllocError, Global};
 use std::process::Abort;
 use std::test::Fail;
+use syntax_defs::MOST_PATTERN_CHARS;
 
 /// The characters of a sample that a node takes, or what else it is.
 fn show_node(alloc: Global, shown: &mut String, node: &PatNode) -> Result<(), AllocError> {
@@ -151,6 +152,7 @@ fn refusals_at_their_places(rt: HostRuntime) -> Result<(), Fail> {
             ("(?<n-", "Syntax { at: 0 }"),
             ("(?<name", "Syntax { at: 7 }"),
             ("\\k<0>", "Syntax { at: 0 }"),
+            ("\\k<0", "Syntax { at: 0 }"),
             ("a[b-", "Syntax { at: 4 }"),
             ("(?~x)", "LeftOut { at: 0 }"),
             ("a{2,1}", "LeftOut { at: 1 }"),
@@ -206,8 +208,8 @@ fn the_longest_text(rt: HostRuntime) -> Result<(), Fail> {
         show(alloc, long.as_str())?.as_str(),
         "TooLong { count: 65537 }"
     );
-    let longest = repeated(alloc, 'a', 65_536, "")?;
+    let longest = repeated(alloc, 'a', MOST_PATTERN_CHARS, "")?;
     let pattern = read_pattern(alloc, longest.as_str())?;
-    assert_eq!(rt; pattern.size(), 65_536);
+    assert_eq!(rt; pattern.size() as usize, MOST_PATTERN_CHARS);
     Ok(())
 }

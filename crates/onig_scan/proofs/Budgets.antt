@@ -11,7 +11,8 @@ pub record AreSame (text : List ℕ) (flags : Flags) (budget more : ℕ) : Type 
   pub outcome : (pair : Pair) → outcome_of (tried text flags budget pair) ≢ outcomes.Spent →
       outcome_of (tried text flags (budget + more) pair) ≡ outcome_of (tried text flags budget pair)
   pub captures : (pair : Pair) (last : Captures) → outcome_of (tried text flags budget pair) ≢ outcomes.Spent →
-      last_hit_captures (tried text flags (budget + more) pair) last ≡ last_hit_captures (tried text flags budget pair) last
+      last_hit_captures (tried text flags (budget + more) pair) last
+      ≡ last_hit_captures (tried text flags budget pair) last
 
 -- the pair that decides, where one does, isn't spent
 abbrev pub IsTold : List ℕ → Flags → ℕ → Option Pair → Type 0
@@ -40,7 +41,8 @@ same_answers p Spent (Miss left') e = cc
 same_answers p Spent Spent e = refl
 
 -- the same pair decides
-pub first_of-same : (text : List ℕ) (flags : Flags) (budget more : ℕ) (all : List Pair) → AreSame text flags budget more →
+pub first_of-same : (text : List ℕ) (flags : Flags) (budget more : ℕ) (all : List Pair)
+    → AreSame text flags budget more →
     IsTold text flags budget (first_of all text flags budget) →
     first_of all text flags (budget + more) ≡ first_of all text flags budget
 first_of-same text flags budget more [] same told = refl
@@ -48,19 +50,22 @@ first_of-same text flags budget more (p ∷ ps) same told =
     by_run (tried text flags budget p) refl (first_of-same text flags budget more ps same)
   where
     by_run : (r : Ran) → tried text flags budget p ≡ r
-        → (IsTold text flags budget (first_of ps text flags budget) → first_of ps text flags (budget + more) ≡ first_of ps text flags budget)
+        → (IsTold text flags budget (first_of ps text flags budget) → first_of ps text flags (budget + more)
+        ≡ first_of ps text flags budget)
         → first_of (p ∷ ps) text flags (budget + more) ≡ first_of (p ∷ ps) text flags budget
     by_run (Hit at captures left) e later =
         let hits : outcome_of (tried text flags budget p) ≡ outcomes.Hit = ap outcome_of e in
         let now : is_no_miss (tried text flags budget p) ≡ true = ap is_no_miss e in
         let then : is_no_miss (tried text flags (budget + more) p) ≡ true =
-        same_decides (tried text flags budget p) (tried text flags (budget + more) p) (same.outcome p (λ s. cc)) ∙ now in
+        same_decides (tried text flags budget p) (tried text flags (budget + more) p) (same.outcome p (λ s. cc))
+        ∙ now in
         rw (now, then) refl
     by_run (Miss left) e later =
         let misses : outcome_of (tried text flags budget p) ≡ outcomes.Miss = ap outcome_of e in
         let now : is_no_miss (tried text flags budget p) ≡ false = ap is_no_miss e in
         let then : is_no_miss (tried text flags (budget + more) p) ≡ false =
-        same_decides (tried text flags budget p) (tried text flags (budget + more) p) (same.outcome p (λ s. cc)) ∙ now in
+        same_decides (tried text flags budget p) (tried text flags (budget + more) p) (same.outcome p (λ s. cc))
+        ∙ now in
         let rest : first_of (p ∷ ps) text flags budget ≡ first_of ps text flags budget = rw now refl in
         let Told : Option Pair → Type 0 = λ o. IsTold text flags budget o in
         rw (now, then) (later (subst Told rest told))
@@ -70,12 +75,14 @@ first_of-same text flags budget more (p ∷ ps) same told =
         absurd (told p.index p.place (ap (found_at text flags budget) first ∙ ap (answer_by p) e))
 
 -- an attempt that decides an answer which isn't spent isn't spent
-not_spent : (p : Pair) (r : Ran) → ((index place : ℕ) → answer_by p r ≢ found.Spent index place) → outcome_of r ≢ outcomes.Spent
+not_spent : (p : Pair) (r : Ran) → ((index place : ℕ) → answer_by p r ≢ found.Spent index place)
+    → outcome_of r ≢ outcomes.Spent
 not_spent p (Hit at captures left) told e = cc
 not_spent p (Miss left) told e = cc
 not_spent p Spent told e = told p.index p.place refl
 
-pub found_at-same : (text : List ℕ) (flags : Flags) (budget more : ℕ) (o : Option Pair) → AreSame text flags budget more →
+pub found_at-same : (text : List ℕ) (flags : Flags) (budget more : ℕ) (o : Option Pair)
+    → AreSame text flags budget more →
     IsTold text flags budget o → found_at text flags (budget + more) o ≡ found_at text flags budget o
 found_at-same text flags budget more None same told = refl
 found_at-same text flags budget more (Some p) same told =

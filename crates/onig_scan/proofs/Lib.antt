@@ -1,3 +1,9 @@
+pub mod BoundLaws
 pub mod Budgets
 pub mod FrontLaws
+pub mod LineLaws
+pub mod Places
+pub mod RowLaws
+pub mod Runs
 pub mod Searches
+pub mod WordBits

@@ -1,6 +1,7 @@
 -- Searches, pair by pair and place by place.
-use Rattle.std.proofs.Common.{◌≡◌, ℕ, suc, ◌+◌, ◌-◌, ◌≤◌, Bool, true, false, List, [], ◌∷◌, ◌++◌, length, Option, Some, None, refl, sym, ap, ◌∙◌, subst, arith}
-use Rattle.std.specs.Prelude.{find, IsSomeAnd}
+use Rattle.std.proofs.Common.{◌≡◌, ℕ, suc, ◌+◌, ◌-◌, ◌≤◌, List, ◌++◌, length, Option}
+use Rattle.std.proofs.Common.{Some, None, sym, ap, ◌∙◌, arith}
+use Rattle.std.specs.Prelude.{IsSomeAnd}
 use Rattle.std.specs.List.{flat_map}
 use Rattle.std.specs.Option.{option_or}
 use Rattle.std.proofs.lemmas.List.Folds.{find-append}
@@ -11,69 +12,43 @@ use Rattle.pattern_defs.specs.declared.outcomes.Found.TheVariants as found
 use Rattle.pattern_defs.specs.declared.outcomes.Found.TheVariants.{At, Nowhere}
 use Rattle.pattern_defs.specs.declared.outcomes.Place.{Place}
 use Rattle.pattern_defs.specs.Patterns.{Tree}
-use Rattle.pattern_defs.specs.Attempt.{Ran, Hit, Miss, Spent}
-use Rattle.pattern_defs.specs.FirstMatch.{Pair, pairs_at, places, pairs, tried, is_no_miss, first_of, first_pair, answer_by, found_at}
+use Rattle.pattern_defs.specs.FirstMatch.{Pair, pairs_at, places, pairs, tried, is_no_miss, first_of, first_pair}
 use Rattle.onig_scan.specs.Answers.{IsAmong, IfAt}
 
 -- places, one after the other
 
-some_answers : (r : Ran) (p : Pair) → is_no_miss r ≡ true → found.Nowhere ≡ answer_by p r → ⊥
-some_answers (Hit at captures left) p is e = cc
-some_answers (Miss left) p is e = cc
-some_answers Spent p is e = cc
-
-find_passes : {X : Type 0} (p : X → Bool) (xs : List X) (x : X) → find p xs ≡ Some x → p x ≡ true
-find_passes p [] x e = absurd (cc)
-find_passes {X = X} p (y ∷ ys) x e = by_test (p y) refl (find_passes p ys x)
-  where
-    by_test : (b : Bool) → p y ≡ b → (find p ys ≡ Some x → p x ≡ true) → p x ≡ true
-    by_test true t later =
-        let first : find p (y ∷ ys) ≡ Some y = rw t refl in
-        let same : y ≡ x = cc in
-        let P : X → Type 0 = λ z. p z ≡ true in
-        subst P same t
-    by_test false t later =
-        let rest : find p (y ∷ ys) ≡ find p ys = rw t refl in
-        later (sym rest ∙ e)
-
--- nothing is found at a place only where each attempt there is a miss
-pub first_of-nowhere : (all : List Pair) (text : List ℕ) (flags : Flags) (budget : ℕ) → found.Nowhere ≡ found_at text flags budget (first_of all text flags budget) → first_of all text flags budget ≡ None
-first_of-nowhere all text flags budget e = by_first (first_of all text flags budget) refl e
-  where
-    by_first : (o : Option Pair) → first_of all text flags budget ≡ o → found.Nowhere ≡ found_at text flags budget o → o ≡ None
-    by_first None is e = refl
-    by_first (Some p) is e = absurd (some_answers (tried text flags budget p) p (find_passes _ all p is) e)
-
 -- the places from one on are that one and those behind it
 pub first_pair-step : (trees : List Tree) (text : List ℕ) (at : ℕ) (flags : Flags) (budget : ℕ) → at ≤ length text
-    → first_pair trees text at flags budget ≡ option_or (first_of (pairs_at 0 trees at) text flags budget) (first_pair trees text (at + 1) flags budget)
+    → first_pair trees text at flags budget ≡ option_or (first_of (pairs_at 0 trees at) text flags budget)
+    (first_pair trees text (at + 1) flags budget)
 first_pair-step trees text at flags budget h =
     let count : length text + 1 - at ≡ suc (length text + 1 - (at + 1)) = omega arith in
     let split : pairs trees text at ≡ pairs_at 0 trees at ++ pairs trees text (at + 1) =
-    ap (λ n. flat_map (pairs_at 0 trees) (places at n)) count ∙ flat_map-cons (pairs_at 0 trees) at (places (at + 1) (length text + 1 - (at + 1))) in
-    ap (λ all. first_of all text flags budget) split ∙ find-append (λ pair. is_no_miss (tried text flags budget pair)) (pairs_at 0 trees at) (pairs trees text (at + 1))
+    ap (λ n. flat_map (pairs_at 0 trees) (places at n)) count
+    ∙ flat_map-cons (pairs_at 0 trees) at (places (at + 1) (length text + 1 - (at + 1))) in
+    ap (λ all. first_of all text flags budget) split
+    ∙ find-append (λ pair. is_no_miss (tried text flags budget pair)) (pairs_at 0 trees at)
+    (pairs trees text (at + 1))
 
 -- where a place decides, the search is over
-pub first_pair-decided : (trees : List Tree) (text : List ℕ) (from at : ℕ) (flags : Flags) (budget : ℕ) (result : Found) → at ≤ length text
+pub first_pair-decided : (trees : List Tree) (text : List ℕ) (from at : ℕ) (flags : Flags) (budget : ℕ) (pair : Pair)
+    → at ≤ length text
     → first_pair trees text at flags budget ≡ first_pair trees text from flags budget
-    → result ≡ found_at text flags budget (first_of (pairs_at 0 trees at) text flags budget)
-    → (result ≡ found.Nowhere → ⊥)
+    → first_of (pairs_at 0 trees at) text flags budget ≡ Some pair
     → first_of (pairs_at 0 trees at) text flags budget ≡ first_pair trees text from flags budget
-first_pair-decided trees text from at flags budget result h missed is decided =
-    by_first (first_of (pairs_at 0 trees at) text flags budget) refl
-  where
-    by_first : (o : Option Pair) → first_of (pairs_at 0 trees at) text flags budget ≡ o → first_of (pairs_at 0 trees at) text flags budget ≡ first_pair trees text from flags budget
-    by_first None e = absurd (decided (is ∙ ap (found_at text flags budget) e))
-    by_first (Some p) e = e ∙ sym (sym missed ∙ first_pair-step trees text at flags budget h ∙ ap (λ o. option_or o (first_pair trees text (at + 1) flags budget)) e)
+first_pair-decided trees text from at flags budget pair h missed is =
+    is ∙ sym (sym missed ∙ first_pair-step trees text at flags budget h
+    ∙ ap (λ o. option_or o (first_pair trees text (at + 1) flags budget)) is)
 
 -- where it doesn't, the search goes on behind it
-pub first_pair-missed : (trees : List Tree) (text : List ℕ) (from at : ℕ) (flags : Flags) (budget : ℕ) → at ≤ length text
+pub first_pair-missed : (trees : List Tree) (text : List ℕ) (from at : ℕ) (flags : Flags) (budget : ℕ)
+    → at ≤ length text
     → first_pair trees text at flags budget ≡ first_pair trees text from flags budget
-    → found.Nowhere ≡ found_at text flags budget (first_of (pairs_at 0 trees at) text flags budget)
+    → first_of (pairs_at 0 trees at) text flags budget ≡ None
     → first_pair trees text (at + 1) flags budget ≡ first_pair trees text from flags budget
-first_pair-missed trees text from at flags budget h missed is =
-    let none : first_of (pairs_at 0 trees at) text flags budget ≡ None = first_of-nowhere (pairs_at 0 trees at) text flags budget is in
-    sym (sym missed ∙ first_pair-step trees text at flags budget h ∙ ap (λ o. option_or o (first_pair trees text (at + 1) flags budget)) none)
+first_pair-missed trees text from at flags budget h missed none =
+    sym (sym missed ∙ first_pair-step trees text at flags budget h
+    ∙ ap (λ o. option_or o (first_pair trees text (at + 1) flags budget)) none)
 
 -- what is known of the answer at one place holds of a search that goes by this place
 
@@ -89,7 +64,8 @@ begins_later from at None low begins = absurd begins
 begins_later from at (Some place) low begins = omega (arith, begins)
 
 pub whole-widen : (from at : ℕ) (result : Found) (taken : Option Place) → from ≤ at →
-    IfAt result (λ _. IsSomeAnd taken (λ place. place.from ≡ at)) → IfAt result (λ _. IsSomeAnd taken (λ place. from ≤ place.from))
+    IfAt result (λ _. IsSomeAnd taken (λ place. place.from ≡ at))
+    → IfAt result (λ _. IsSomeAnd taken (λ place. from ≤ place.from))
 whole-widen from at (At index) taken low begins = begins_later from at taken low begins
 whole-widen from at Nowhere taken low begins = tt
 whole-widen from at (found.Spent index place) taken low begins = tt

@@ -1,9 +1,13 @@
-ghost use Rattle.std.specs.Prelude.{◌≡◌, ℕ, ◌+◌, ◌<◌, ◌≤◌, ◌^◌, length, IfOk, IfSome, IsSomeAnd};
+ghost use Rattle.std.specs.Prelude.{◌≡◌, ℕ, ◌+◌, ◌<◌, ◌≤◌, ◌^◌, false, length, IfOk, IfSome, IsSomeAnd, IsTrue};
+ghost use Rattle.onig_scan.specs.Rows.{IsSpared, IsSparedAt, IsSparedInLine};
 ghost use Rattle.std.specs.Rc.{rc_value};
 ghost use Rattle.pattern_defs.specs.Attempt.{capture_of, outcome_of, last_hit_captures, attempt as attempted};
 ghost use Rattle.onig_match.specs.Works.{IsPart};
 
-use crate::front::{Front, MOST_DEEP, front_of};
+use crate::front::Front;
+use crate::front_of::front_of_all;
+use crate::line_start::line_visits;
+use crate::rows::{CLASSES, ROW_VISITS, ROWS};
 use onig_match::{Work, attempt};
 use pattern_defs::{Flags, Outcome};
 use pattern_tree::Pattern;
@@ -16,6 +20,8 @@ use std::rc::Rc;
 pub(crate) struct Entry {
     pattern: Rc<Pattern>,
     front: Option<Front>,
+    /// How many visits tell that it misses where no line begins, if it always does.
+    line: Option<u64>,
 }
 
 impl Model for Entry {
@@ -28,16 +34,21 @@ impl Model for Entry {
 
     ghost view = { λ e. rc_value e.pattern };
 
-    ghost invariant = { λ e. HasFront (rc_value e.pattern) e.front };
+    ghost invariant = { λ e. HasFront (rc_value e.pattern) e.front e.line };
 }
 
 impl Entry {
     pub(crate) fn of(alloc: Global, pattern: &Rc<Pattern>) -> Result<Entry, AllocError>
         ensures { IfOk result (λ e. e ≡ rc_value pattern.now) }
     {
-        let front = front_of(alloc, pattern, pattern.list(pattern.top()), MOST_DEEP)?;
+        let front = front_of_all(alloc, pattern)?;
+        let line = line_visits(pattern);
         let pattern = pattern.clone()?;
-        Ok(Entry { pattern, front })
+        Ok(Entry {
+            pattern,
+            front,
+            line,
+        })
     }
 
     /// How many groups the pattern has.
@@ -45,6 +56,40 @@ impl Entry {
         ensures { result ≡ self.now.groups }
     {
         self.pattern.groups()
+    }
+
+    /// Whether the pattern has to be tried where a line begins alone.
+    fn needs_line(&self) -> bool
+        ensures { IsTrue result → IsSparedInLine self.now ROW_VISITS }
+    {
+        match self.line {
+            Some(visits) => visits <= u64::from(ROW_VISITS),
+            None => false,
+        }
+    }
+
+    /// Whether the pattern may match where such a character stands.
+    fn may_stand(&self, class: usize) -> bool
+        ensures { (result ≡ false) → IsSparedAt self.now class ROW_VISITS }
+    {
+        match &self.front {
+            Some(front) => front.cost > u64::from(ROW_VISITS) || front.may_have(class),
+            None => true,
+        }
+    }
+
+    /// Whether the pattern may match at the places of a row.
+    pub(crate) fn may_match(&self, row: usize) -> bool
+        requires { row < ROWS }
+        ensures { (result ≡ false) → IsSpared self.now row ROW_VISITS }
+    {
+        if row >= CLASSES {
+            return self.may_stand(row - CLASSES);
+        }
+        if self.needs_line() {
+            return false;
+        }
+        self.may_stand(row)
     }
 
     /// An attempt of the pattern, which is spared where it would miss for want of a character.

@@ -1,25 +1,53 @@
-ghost use Rattle.std.specs.Prelude.{◌≡◌, ◌<◌, ◌≤◌, ◌+◌, ◌∷◌, IfOk, IfSome, IsTrue, length, take};
-ghost use Rattle.pattern_defs.specs.Patterns.{nodes_of, IsNode, AreNodes, AllIds};
-ghost use Rattle.onig_scan.specs.Fronts.{IsFront, AreFronts, IsFrontOfRepeat, IsWithin, IsWithout};
+ghost use Rattle.std.specs.Prelude.{◌≡◌, ◌≤◌, ◌+◌, [], true, false, IfOk, IfSome, IsSomeAnd, IsTrue};
+ghost use Rattle.onig_scan.specs.Fronts.{IsWithin, IsWithout, IsWider};
+ghost use Rattle.onig_scan.specs.Rows.{HasNone};
 
 use char_sets::CharSet;
-use pattern_tree::{ListId, PatNode, Pattern};
 use std::alloc::{AllocError, Global};
 
-/// How many nodes deep a front is looked for, and over how many alternatives.
-pub(crate) const MOST_DEEP: u32 = 32;
-
-const MOST_ARMS: usize = 64;
-
-/// Characters of which one stands wherever a pattern matches, and how many visits an attempt takes at most
-/// to miss where none of them stands.
+/// Characters of which one stands wherever nodes match, and how many visits an attempt takes at most to miss where
+/// none of them stands. Where `stays`, the nodes may also hit there and take nothing.
 #[derive(Debug, Drop)]
 pub(crate) struct Front {
     pub(crate) set: CharSet,
     pub(crate) cost: u64,
+    pub(crate) stays: bool,
 }
 
 impl Front {
+    /// No characters at no visit.
+    pub(crate) fn none(alloc: Global) -> Front
+        ensures { result ≡ record { set = []; cost = 0; stays = false } }
+    {
+        Front {
+            set: CharSet::empty(alloc),
+            cost: 0,
+            stays: false,
+        }
+    }
+
+    /// The front of the end of a run: nothing is needed, and nothing is taken.
+    pub(crate) fn at_end(alloc: Global) -> Front
+        ensures { result ≡ record { set = []; cost = 1; stays = true } }
+    {
+        Front {
+            set: CharSet::empty(alloc),
+            cost: 1,
+            stays: true,
+        }
+    }
+
+    /// Whether a character of this kind may be in the set.
+    pub(crate) fn may_have(&self, class: usize) -> bool
+        ensures { (result ≡ false) → HasNone self.now.set class }
+    {
+        if class < 128 {
+            self.set.has(class as u8 as char)
+        } else {
+            class == 128
+        }
+    }
+
     /// Whether no character of the set stands at the place, and the budget suffices to miss there.
     pub(crate) fn misses_at(&self, text: &[char], at: u32, budget: u32) -> bool
         ensures without { IsTrue result → IsWithout self.now.set text.now at }
@@ -35,134 +63,56 @@ impl Front {
     }
 }
 
-/// The same characters at one visit more, where that can be counted.
-fn one_visit_more(front: Front) -> Option<Front>
-    ensures { IfSome result (λ f. (f.set ≡ front.set) × (f.cost ≡ front.cost + 1)) }
+pub(crate) fn copied(alloc: Global, front: &Option<Front>) -> Result<Option<Front>, AllocError>
+    ensures { IfOk result (λ o. IfSome o (λ f. IsSomeAnd front.now (λ g. f ≡ g))) }
 {
-    let Some(cost) = front.cost.checked_add(1) else {
-        return None;
-    };
+    match front {
+        None => Ok(None),
+        Some(front) => Ok(Some(Front {
+            set: front.set.copy(alloc)?,
+            cost: front.cost,
+            stays: front.stays,
+        })),
+    }
+}
+
+/// The same characters at so many visits more, where these can be counted.
+pub(crate) fn with_visits(front: Option<Front>, visits: u64) -> Option<Front>
+    ensures { IfSome result (λ f. IsSomeAnd front (λ g. f ≡ record g { cost = g.cost + visits })) }
+{
+    let front = front?;
+    let cost = front.cost.checked_add(visits)?;
     Some(Front {
         set: front.set,
         cost,
+        stays: front.stays,
     })
 }
 
 /// The characters of both at the visits of both, where these can be counted.
-fn joined(alloc: Global, a: &Front, b: &Front) -> Result<Option<Front>, AllocError>
-    ensures { IfOk result (λ o. IfSome o (λ f. IsWithin a.now.set f.set × IsWithin b.now.set f.set × (f.cost ≡ a.now.cost + b.now.cost))) }
+pub(crate) fn joined(
+    alloc: Global,
+    a: &Front,
+    b: &Front,
+    stays: bool,
+) -> Result<Option<Front>, AllocError>
+    ensures { IfOk result (λ o. IfSome o (λ f. IsWithin a.now.set f.set × IsWithin b.now.set f.set
+        × (f.stays ≡ stays) × (f.cost ≡ a.now.cost + b.now.cost))) }
 {
     let Some(cost) = a.cost.checked_add(b.cost) else {
         return Ok(None);
     };
     let set = a.set.union(alloc, &b.set)?;
-    Ok(Some(Front { set, cost }))
+    Ok(Some(Front { set, cost, stays }))
 }
 
-/// The front of nodes, where one is found.
-#[cycle(fronts)]
-pub(crate) fn front_of(
-    alloc: Global,
-    pattern: &Pattern,
-    nodes: &[PatNode],
-    depth: u32,
-) -> Result<Option<Front>, AllocError>
-    requires { AreNodes (length pattern.now.lists) pattern.now.groups nodes.now }
-    ensures { IfOk result (λ o. IfSome o (λ f. IsFront pattern.now.lists nodes.now f.set f.cost)) }
+/// The same of two ways on, each of which may stay.
+pub(crate) fn joined_ways(alloc: Global, a: &Front, b: &Front) -> Result<Option<Front>, AllocError>
+    ensures { IfOk result (λ o. IfSome o (λ f. IsWider a.now f × IsWider b.now f × (f.cost ≡ a.now.cost + b.now.cost))) }
 {
-    if depth == 0 {
-        return Ok(None);
+    if a.stays {
+        joined(alloc, a, b, true)
+    } else {
+        joined(alloc, a, b, b.stays)
     }
-    let Some((first, rest)) = nodes.split_first() else {
-        return Ok(None);
-    };
-    match front_behind(alloc, pattern, first, rest, depth - 1)? {
-        None => Ok(None),
-        Some(front) => Ok(one_visit_more(front)),
-    }
-}
-
-/// The front of a node and what follows it, where the visit for the node itself isn't counted.
-#[cycle(fronts)]
-fn front_behind(
-    alloc: Global,
-    pattern: &Pattern,
-    first: &PatNode,
-    rest: &[PatNode],
-    depth: u32,
-) -> Result<Option<Front>, AllocError>
-    requires first { IsNode (length pattern.now.lists) pattern.now.groups first.now }
-    requires rest { AreNodes (length pattern.now.lists) pattern.now.groups rest.now }
-    ensures { IfOk result (λ o. IfSome o (λ f. IsFront pattern.now.lists (first.now ∷ rest.now) f.set (f.cost + 1))) }
-{
-    match first {
-        PatNode::One(set) => {
-            let set = set.copy(alloc)?;
-            Ok(Some(Front { set, cost: 0 }))
-        }
-        PatNode::At(_) => front_of(alloc, pattern, rest, depth),
-        PatNode::Group { body, .. } => front_of(alloc, pattern, pattern.list(*body), depth),
-        PatNode::Atomic(body) => front_of(alloc, pattern, pattern.list(*body), depth),
-        PatNode::Choice(ids) => front_of_arms(alloc, pattern, ids.as_slice(), depth),
-        PatNode::Repeat { body, least, .. } => {
-            front_of_repeat(alloc, pattern, *body, *least, rest, depth)
-        }
-        PatNode::Ahead { .. } | PatNode::Behind { .. } | PatNode::Back { .. } => Ok(None),
-    }
-}
-
-/// The characters before alternatives.
-#[cycle(fronts)]
-fn front_of_arms(
-    alloc: Global,
-    pattern: &Pattern,
-    ids: &[ListId],
-    depth: u32,
-) -> Result<Option<Front>, AllocError>
-    requires { AllIds (length pattern.now.lists) ids.now }
-    ensures { IfOk result (λ o. IfSome o (λ f. AreFronts pattern.now.lists ids.now f.set f.cost)) }
-{
-    let mut all = Front {
-        set: CharSet::empty(alloc),
-        cost: 0,
-    };
-    if ids.len() > MOST_ARMS {
-        return Ok(None);
-    }
-    for id in ids {
-        let Some(front) = front_of(alloc, pattern, pattern.list(*id), depth)? else {
-            return Ok(None);
-        };
-        let Some(both) = joined(alloc, &all, &front)? else {
-            return Ok(None);
-        };
-        all = both;
-    }
-    Ok(Some(all))
-}
-
-/// The characters before a repeat: those of its body, and of what follows it where it may take nothing.
-#[cycle(fronts)]
-fn front_of_repeat(
-    alloc: Global,
-    pattern: &Pattern,
-    body: ListId,
-    least: u32,
-    rest: &[PatNode],
-    depth: u32,
-) -> Result<Option<Front>, AllocError>
-    requires body { body.0 < length pattern.now.lists }
-    requires rest { AreNodes (length pattern.now.lists) pattern.now.groups rest.now }
-    ensures { IfOk result (λ o. IfSome o (λ f. IsFrontOfRepeat pattern.now.lists body least rest.now f.set f.cost)) }
-{
-    let Some(inner) = front_of(alloc, pattern, pattern.list(body), depth)? else {
-        return Ok(None);
-    };
-    if least > 0 {
-        return Ok(Some(inner));
-    }
-    let Some(after) = front_of(alloc, pattern, rest, depth)? else {
-        return Ok(None);
-    };
-    joined(alloc, &inner, &after)
 }

@@ -1,9 +1,13 @@
 //! Searches over several patterns at once.
 #![tactic(auto)]
 
+mod bound;
 mod entry;
 mod front;
+mod front_of;
 pub mod laws;
+mod line_start;
+mod rows;
 pub mod scanner;
 
 pub use laws::a_greater_budget_changes_no_match;

@@ -1,11 +1,13 @@
-ghost use Rattle.std.specs.Prelude.{◌≡◌, ℕ, ◌+◌, ◌<◌, ◌≤◌, ◌^◌, All, length, map, slice_get, IfOk, IfSome, IsSomeAnd};
+ghost use Rattle.std.specs.Prelude.{◌≡◌, ℕ, ◌+◌, ◌*◌, ◌<◌, ◌≤◌, ◌^◌, All, length, map, slice_get, IfNone, IfOk, IfSome, IsSomeAnd};
 ghost use Rattle.std.specs.Rc.{rc_value};
-ghost use Rattle.pattern_defs.specs.FirstMatch.{pairs_at, first_of, found_at, captures_at, first_match, captures_after};
+ghost use Rattle.pattern_defs.specs.FirstMatch.{first_match, captures_after};
 ghost use Rattle.pattern_defs.specs.Attempt.{capture_of};
 ghost use Rattle.onig_match.specs.Works.{IsPart};
 ghost use Rattle.onig_scan.specs.Answers.{IsAmong, IfAt};
+ghost use Rattle.onig_scan.specs.Rows.{row_of, IsScalarAt, IsWord, IsRow, IsDecided, GoesOn, IsPassed};
 
 use crate::entry::Entry;
+use crate::rows::{ROW_VISITS, row_at, rows_of};
 use onig_match::Work;
 use pattern_defs::{Flags, Found, Outcome};
 use pattern_tree::Pattern;
@@ -17,17 +19,23 @@ use std::rc::Rc;
 #[derive(Debug, Drop)]
 pub struct Scanner {
     entries: Vec<Entry>,
+    /// How many words a row has.
+    words: usize,
+    /// For each kind of place which patterns may match there, 64 in a word, row by row.
+    rows: Vec<u64>,
 }
 
 impl Model for Scanner {
-    ghost use Rattle.std.specs.Prelude.{List, length, ◌<◌, ◌^◌};
+    ghost use Rattle.std.specs.Prelude.{List};
     ghost use Rattle.pattern_defs.specs.Patterns.{Tree};
 
     ghost Value = { List Tree };
 
     ghost view = { λ s. s.entries.items };
 
-    ghost invariant = { λ s. length s.entries.items < 2 ^ 32 };
+    ghost use Rattle.onig_scan.specs.Scanners.{IsScanner};
+
+    ghost invariant = { IsScanner };
 }
 
 /// The most groups that one of the patterns has.
@@ -42,41 +50,129 @@ fn most_groups(entries: &[Entry]) -> u32
     most
 }
 
-/// The first of the patterns that matches at this place.
-fn find_at(entries: &[Entry], work: &mut Work, text: &[char], at: u32, flags: Flags) -> Found
+/// What the attempt of one of the patterns decides, if it isn't a miss.
+fn decided_by(
+    entries: &[Entry],
+    index: usize,
+    work: &mut Work,
+    text: &[char],
+    at: u32,
+    flags: Flags,
+) -> Option<Found>
+    requires few { length entries.now < 2 ^ 32 }
+    requires there { index < length entries.now }
+    requires short { length text.now < 2 ^ 31 }
+    requires inside { at ≤ length text.now }
+    requires room { All (λ tree. tree.groups ≤ work.old.room) entries.now }
+    ensures missed { IfNone result (GoesOn entries.now index (index + 1) at text.now flags work.old work.new) }
+    ensures found { IfSome result (IsDecided entries.now index at text.now flags work.old work.new) }
+{
+    match entries[index].attempt(work, text, at, flags) {
+        Outcome::Hit => Some(Found::At {
+            index: index as u32,
+        }),
+        Outcome::Spent => Some(Found::Spent {
+            index: index as u32,
+            at,
+        }),
+        Outcome::Miss => None,
+    }
+}
+
+/// The first of all patterns from a number on that matches at this place.
+fn find_in_all(
+    entries: &[Entry],
+    work: &mut Work,
+    text: &[char],
+    at: u32,
+    flags: Flags,
+) -> Option<Found>
     requires few { length entries.now < 2 ^ 32 }
     requires short { length text.now < 2 ^ 31 }
     requires inside { at ≤ length text.now }
     requires room { All (λ tree. tree.groups ≤ work.old.room) entries.now }
-    ensures found { result ≡ found_at text.now flags work.old.budget
-        (first_of (pairs_at 0 entries.now at) text.now flags work.old.budget) }
-    ensures work { work.new ≡ record work.old {
-      hit = captures_at text.now flags work.old.budget
-          (first_of (pairs_at 0 entries.now at) text.now flags work.old.budget) work.old.hit;
-    } }
-    ensures names { IsAmong (length entries.now) at at result }
-    ensures groups { IfAt result (λ index. IsSomeAnd (slice_get entries.now index)
-        (λ tree. length work.new.hit ≡ tree.groups + 1)) }
-    ensures captures { IfAt result (λ _. (n : ℕ) → IfSome (capture_of work.new.hit n) (IsPart (length text.now))) }
-    ensures whole { IfAt result (λ _. IsSomeAnd (capture_of work.new.hit 0) (λ place. place.from ≡ at)) }
+    ensures missed { IfNone result (GoesOn entries.now 0 (length entries.now) at text.now flags work.old work.new) }
+    ensures found { IfSome result (IsDecided entries.now 0 at text.now flags work.old work.new) }
 {
-    for (index, entry) in entries.iter().enumerate() {
-        match entry.attempt(work, text, at, flags) {
-            Outcome::Hit => {
-                return Found::At {
-                    index: index as u32,
-                };
-            }
-            Outcome::Spent => {
-                return Found::Spent {
-                    index: index as u32,
-                    at,
-                };
-            }
-            Outcome::Miss => {}
+    for index in 0..entries.len() {
+        let found = decided_by(entries, index, work, text, at, flags);
+        if found.is_some() {
+            return found;
         }
     }
-    Found::Nowhere
+    None
+}
+
+/// The first of those patterns that matches at this place whose bit is set, of 64 from a number on.
+fn find_in_word(
+    entries: &[Entry],
+    word: u64,
+    first: usize,
+    work: &mut Work,
+    text: &[char],
+    at: u32,
+    flags: Flags,
+) -> Option<Found>
+    requires few { length entries.now < 2 ^ 32 }
+    requires low { first < 2 ^ 40 }
+    requires short { length text.now < 2 ^ 31 }
+    requires inside { at ≤ length text.now }
+    requires room { All (λ tree. tree.groups ≤ work.old.room) entries.now }
+    requires scalar { IsScalarAt text.now at }
+    requires enough { ROW_VISITS ≤ work.old.budget }
+    requires word { IsWord entries.now (row_of text.now at) first ROW_VISITS word }
+    ensures missed { IfNone result (GoesOn entries.now first (first + 64) at text.now flags work.old work.new) }
+    ensures found { IfSome result (IsDecided entries.now first at text.now flags work.old work.new) }
+{
+    let mut left = word;
+    let mut index = first;
+    while left != 0 {
+        let skipped = left.trailing_zeros();
+        index += skipped as usize;
+        if index >= entries.len() {
+            return None;
+        }
+        let found = decided_by(entries, index, work, text, at, flags);
+        if found.is_some() {
+            return found;
+        }
+        index += 1;
+        left = (left >> skipped) >> 1;
+    }
+    None
+}
+
+/// The first of the patterns that matches at this place, by the words of its row, which begin at `start`.
+fn find_in_row(
+    entries: &[Entry],
+    rows: &[u64],
+    start: usize,
+    words: usize,
+    work: &mut Work,
+    text: &[char],
+    at: u32,
+    flags: Flags,
+) -> Option<Found>
+    requires few { length entries.now < 2 ^ 32 }
+    requires small { words < 2 ^ 32 }
+    requires all { length entries.now ≤ 64 * words }
+    requires within { start + words ≤ length rows.now }
+    requires short { length text.now < 2 ^ 31 }
+    requires inside { at ≤ length text.now }
+    requires room { All (λ tree. tree.groups ≤ work.old.room) entries.now }
+    requires scalar { IsScalarAt text.now at }
+    requires enough { ROW_VISITS ≤ work.old.budget }
+    requires row { IsRow entries.now (row_of text.now at) ROW_VISITS rows.now start words }
+    ensures missed { IfNone result (GoesOn entries.now 0 (64 * words) at text.now flags work.old work.new) }
+    ensures found { IfSome result (IsDecided entries.now 0 at text.now flags work.old work.new) }
+{
+    for k in 0..words {
+        let found = find_in_word(entries, rows[start + k], 64 * k, work, text, at, flags);
+        if found.is_some() {
+            return found;
+        }
+    }
+    None
 }
 
 impl Scanner {
@@ -89,7 +185,13 @@ impl Scanner {
         for pattern in patterns {
             entries.push(Entry::of(alloc, pattern)?)?;
         }
-        Ok(Scanner { entries })
+        let words = (entries.len() + 63) / 64;
+        let rows = rows_of(alloc, entries.as_slice(), words)?;
+        Ok(Scanner {
+            entries,
+            words,
+            rows,
+        })
     }
 
     /// The most groups that one of the patterns has.
@@ -98,6 +200,32 @@ impl Scanner {
         ensures least { (room : ℕ) → All (λ tree. tree.groups ≤ room) self.now → result ≤ room }
     {
         most_groups(&self.entries)
+    }
+
+    /// The first of the patterns that matches at this place. Where the budget may not suffice to miss as rows have it,
+    /// all are tried.
+    fn find_at(&self, work: &mut Work, text: &[char], at: u32, flags: Flags) -> Option<Found>
+        requires short { length text.now < 2 ^ 31 }
+        requires inside { at ≤ length text.now }
+        requires room { All (λ tree. tree.groups ≤ work.old.room) self.now }
+        ensures missed { IfNone result (IsPassed self.now at text.now flags work.old work.new) }
+        ensures found { IfSome result (IsDecided self.now 0 at text.now flags work.old work.new) }
+    {
+        if work.budget() < ROW_VISITS {
+            return find_in_all(&self.entries, work, text, at, flags);
+        }
+        let row = row_at(text, at);
+        let start = row * self.words;
+        find_in_row(
+            &self.entries,
+            &self.rows,
+            start,
+            self.words,
+            work,
+            text,
+            at,
+            flags,
+        )
     }
 
     /// The first match from a place on: places are tried in order, and at each the patterns in order. What the
@@ -119,9 +247,8 @@ impl Scanner {
     {
         let end = text.len() as u32 + 1;
         for at in from..end {
-            match find_at(&self.entries, work, text, at, flags) {
-                Found::Nowhere => {}
-                found => return found,
+            if let Some(found) = self.find_at(work, text, at, flags) {
+                return found;
             }
         }
         Found::Nowhere

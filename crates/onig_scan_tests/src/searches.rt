@@ -368,12 +368,18 @@ fn searched(
 
 #[test]
 fn the_first_match_is_found(rt: HostRuntime) -> Result<(), Fail> {
-    let rows: [(&[&str], &str, u32, u32, &str); 12] = [
+    let rows: [(&[&str], &str, u32, u32, &str); 18] = [
         (&["b", "a"], "ab", 0, 100, "At { index: 1 } 0-1"),
-        (&["b", "a"], "c", 0, 100, "Nowhere ."),
-        (&["b", "a"], "ab", 1, 100, "At { index: 0 } 1-2"),
-        (&["b", "a"], "ab", 2, 100, "Nowhere ."),
-        (&["a", "a(b)"], "xab", 0, 100, "At { index: 0 } 1-2"),
+        (&["b", "a"], "c", 0, 2000, "Nowhere ."),
+        (&["b", "a"], "ab", 1, 2000, "At { index: 0 } 1-2"),
+        (&["b", "a"], "ab", 2, 2000, "Nowhere ."),
+        (&["a", "a(b)"], "xab", 0, 2000, "At { index: 0 } 1-2"),
+        (&["b", "[^a-z]"], "a\u{e9}", 0, 2000, "At { index: 1 } 1-2"),
+        (&["^b", "b"], "ab", 0, 2000, "At { index: 1 } 1-2"),
+        (&["^b", "b"], "a\nb", 0, 2000, "At { index: 0 } 2-3"),
+        (&["(?!b)."], "ba", 0, 2000, "At { index: 0 } 1-2"),
+        (&["(?<!a)b"], "abb", 0, 2000, "At { index: 0 } 2-3"),
+        (&["b", "$"], "aa", 0, 2000, "At { index: 1 } 2-2"),
         (
             &["x(?<=(a)x)", "z"],
             "xax",
@@ -381,8 +387,8 @@ fn the_first_match_is_found(rt: HostRuntime) -> Result<(), Fail> {
             100,
             "At { index: 0 } 2-3 1-2",
         ),
-        (&["c|b", "(?:a|d)+"], "ada", 0, 100, "At { index: 1 } 0-3"),
-        (&["c?d", "[^a-c]"], "abcd", 0, 100, "At { index: 0 } 2-4"),
+        (&["c|b", "(?:a|d)+"], "ada", 0, 2000, "At { index: 1 } 0-3"),
+        (&["c?d", "[^a-c]"], "abcd", 0, 2000, "At { index: 0 } 2-4"),
         (&["$"], "ab", 0, 100, "At { index: 0 } 2-2"),
         (&["c", "a*b"], "xaab", 0, 5, "Spent { index: 1, at: 1 } ."),
         (&["ab"], "b", 0, 0, "Spent { index: 0, at: 0 } ."),
@@ -398,5 +404,23 @@ fn the_first_match_is_found(rt: HostRuntime) -> Result<(), Fail> {
         let found = searched(rt.alloc(), &scanner, text.as_slice(), from, budget)?;
         assert_eq!(rt; found.as_str(), expected);
     }
+    Ok(())
+}
+
+#[test]
+fn patterns_beyond_the_first_word_of_a_row_are_found(rt: HostRuntime) -> Result<(), Fail> {
+    let mut patterns = Vec::new(rt.alloc());
+    for _ in 0..65 {
+        patterns.push("b")?;
+    }
+    patterns.push("a")?;
+    let read = all_read(rt.alloc(), patterns.as_slice())?;
+    if read.len() > 100 {
+        return Ok(());
+    }
+    let scanner = Scanner::new(rt.alloc(), read.as_slice())?;
+    let text = ['c', 'a'];
+    let found = searched(rt.alloc(), &scanner, text.as_slice(), 0, 2000)?;
+    assert_eq!(rt; found.as_str(), "At { index: 65 } 1-2");
     Ok(())
 }

@@ -14,102 +14,10 @@ use Rattle.piece_io.specs.declared.mem_files.MemFile.{MemFile}
 pub record IsPlaceOf (files : List MemFile) (name : List ℕ) (at : ℕ) : Type 0 where
   pub within : at < length files
   pub found : (d : MemFile) → file_of files name ≡ Some (slice_index_or files at d)
-  pub change : (change : MemFile → MemFile) (d : MemFile) → changed change files name
-      ≡ slice_set files at (change (slice_index_or files at d))
+  pub change : (change : MemFile → MemFile) (d : MemFile)
+      → changed change files name ≡ slice_set files at (change (slice_index_or files at d))
 
--- the place of a file among the later ones
-later-place : (b : Bool) (name : List ℕ) (file : MemFile) (files : List MemFile) (at : ℕ) → bytes_eq file.name name
-    ≡ b → b ≡ false
-    → IsPlaceOf files name at → IsPlaceOf (file ∷ files) name (suc at)
-later-place b name file files at is other place = record {
-  within = omega (arith, place.within);
-  found = λ d. ap (λ b. if b then Some file else file_of files name) (is ∙ other) ∙ place.found d;
-  change = λ change d. ap (λ b. changed_at b change file files (changed change files name)) (is ∙ other)
-      ∙ ap (λ files. file ∷ files) (place.change change d);
-}
-
-first-place : (name : List ℕ) (file : MemFile) (files : List MemFile) → bytes_eq file.name name ≡ true
-    → IsPlaceOf (file ∷ files) name zero
-first-place name file files is = record {
-  within = omega arith;
-  found = λ d. ap (λ b. if b then Some file else file_of files name) is;
-  change = λ change d. ap (λ b. changed_at b change file files (changed change files name)) is;
-}
-
--- how many files stand before the first one of a name
-before : List ℕ → List MemFile → ℕ
-before name files = position_or_len (λ file. bytes_eq file.name name) files
-
-before-here : (name : List ℕ) (file : MemFile) (files : List MemFile) → bytes_eq file.name name ≡ true
-    → before name (file ∷ files) ≡ zero
-unfolding before
-before-here name file files is = ap (λ b. if not b then 1 + before name files else 0) is
-
-before-later : (name : List ℕ) (file : MemFile) (files : List MemFile) → bytes_eq file.name name ≡ false
-    → before name (file ∷ files) ≡ suc (before name files)
-unfolding before
-before-later name file files is = ap (λ b. if not b then 1 + before name files else 0) is ∙ omega arith
-
-place-by : (b : Bool) (name : List ℕ) (file : MemFile) (files : List MemFile) → bytes_eq file.name name ≡ b
-    → (before name files < length files → IsPlaceOf files name (before name files))
-    → before name (file ∷ files) < length (file ∷ files) → IsPlaceOf (file ∷ files) name (before name (file ∷ files))
-place-by true name file files is later within = rw (before-here name file files is) (first-place name file files is)
-place-by false name file files is later within =
-    let there : before name files < length files = omega (arith, before-later name file files is) in
-    rw (before-later name file files is) (later-place false name file files (before name files) is refl (later there))
-
-place : (name : List ℕ) (files : List MemFile) → before name files < length files
-    → IsPlaceOf files name (before name files)
-place name [] within = absurd (omega arith)
-place name (file ∷ files) within = place-by (bytes_eq file.name name) name file files refl (place name files) within
-
-no-place-by : (b : Bool) (name : List ℕ) (file : MemFile) (files : List MemFile) → bytes_eq file.name name ≡ b
-    → (length files ≤ before name files → file_of files name ≡ None)
-    → length (file ∷ files) ≤ before name (file ∷ files) → file_of (file ∷ files) name ≡ None
-no-place-by true name file files is later past = absurd (omega (arith, before-here name file files is))
-no-place-by false name file files is later past =
-    ap (λ b. if b then Some file else file_of files name) is ∙ later (omega (arith, before-later name file files is))
-
-no-place : (name : List ℕ) (files : List MemFile) → length files ≤ before name files → file_of files name ≡ None
-no-place name [] past = refl
-no-place name (file ∷ files) past = no-place-by (bytes_eq file.name name) name file files refl (no-place name files)
-    past
-
-position-by : (b : Bool) (name : List ℕ) (files : List MemFile) → nat_lt (before name files) (length files) ≡ b
-    → MatchOption (if b then Some (before name files) else None) (file_of files name ≡ None) (IsPlaceOf files name)
-position-by true name files is = place name files (ltb-true (before name files) (length files) is)
-position-by false name files is = no-place name files (ltb-false (before name files) (length files) is)
-
--- what `position` finds is the place of the file
-pub placed : (name : List ℕ) (files : List MemFile) (r : Option ℕ) → r
-    ≡ position (λ file. bytes_eq file.name name) files
-    → MatchOption r (file_of files name ≡ None) (IsPlaceOf files name)
-unfolding before
-placed name files r is =
-    let P : Option ℕ → Type 0 = λ r. MatchOption r (file_of files name ≡ None) (IsPlaceOf files name) in
-    subst P (sym is) (position-by (nat_lt (before name files) (length files)) name files refl)
-
-changed-none-by : (b : Bool) (change : MemFile → MemFile) (file : MemFile) (files : List MemFile) (name : List ℕ)
-    → bytes_eq file.name name ≡ b
-    → (file_of files name ≡ None → changed change files name ≡ files) → file_of (file ∷ files) name ≡ None
-    → changed change (file ∷ files) name ≡ file ∷ files
-changed-none-by true change file files name is later none =
-    let here : file_of (file ∷ files) name ≡ Some file = ap (λ b. if b then Some file else file_of files name) is in cc
-changed-none-by false change file files name is later none =
-    ap (λ b. changed_at b change file files (changed change files name)) is
-    ∙ ap (λ files. file ∷ files) (later (sym (ap (λ b. if b then Some file else file_of files name) is) ∙ none))
-
-pub changed-none : (change : MemFile → MemFile) (files : List MemFile) (name : List ℕ) → file_of files name ≡ None
-    → changed change files name ≡ files
-changed-none change [] name none = refl
-changed-none change (file ∷ files) name none =
-    changed-none-by (bytes_eq file.name name) change file files name refl (changed-none change files name) none
-
--- a change that keeps each file's name
-abbrev pub KeepsName : (MemFile → MemFile) → Type 0
-KeepsName change = (file : MemFile) → (change file).name ≡ file.name
-
--- whether the first file has the name decides which file has it
+-- whether the first file has the name decides which file has it, and which is changed
 file_of-here : (file : MemFile) (files : List MemFile) (name : List ℕ) (b : Bool) → bytes_eq file.name name ≡ b
     → file_of (file ∷ files) name ≡ (if b then Some file else file_of files name)
 file_of-here file files name b is = ap (λ b. if b then Some file else file_of files name) is
@@ -119,32 +27,81 @@ changed-here : (change : MemFile → MemFile) (file : MemFile) (files : List Mem
     → changed change (file ∷ files) name ≡ changed_at b change file files (changed change files name)
 changed-here change file files name b is = ap (λ b. changed_at b change file files (changed change files name)) is
 
-file_of-changed-by : (b : Bool) (change : MemFile → MemFile) (file : MemFile) (files : List MemFile) (name : List ℕ)
-    → KeepsName change
-    → bytes_eq file.name name ≡ b → file_of (changed change files name) name ≡ option_map change (file_of files name)
-    → file_of (changed change (file ∷ files) name) name ≡ option_map change (file_of (file ∷ files) name)
-file_of-changed-by true change file files name keeps is later =
-    ap (λ files. file_of files name) (changed-here change file files name true is)
-    ∙ file_of-here (change file) files name true (ap (λ own. bytes_eq own name) (keeps file) ∙ is)
-    ∙ ap (option_map change) (sym (file_of-here file files name true is))
-file_of-changed-by false change file files name keeps is later =
-    ap (λ files. file_of files name) (changed-here change file files name false is)
-    ∙ file_of-here file (changed change files name) name false is ∙ later
-    ∙ ap (option_map change) (sym (file_of-here file files name false is))
+-- ---- where the file of a name stands
 
--- the file of the name is changed
-pub file_of-changed : (change : MemFile → MemFile) (files : List MemFile) (name : List ℕ) → KeepsName change
-    → file_of (changed change files name) name ≡ option_map change (file_of files name)
-file_of-changed change [] name keeps = refl
-file_of-changed change (file ∷ files) name keeps =
-    file_of-changed-by (bytes_eq file.name name) change file files name keeps refl
-    (file_of-changed change files name keeps)
+-- how many files stand before the first one of a name
+before : List ℕ → List MemFile → ℕ
+before name files = position_or_len (λ file. bytes_eq file.name name) files
+
+-- of files of which the first has the name or not
+module _ (name : List ℕ) (file : MemFile) (files : List MemFile) where
+  abbrev Has : Bool → Type 0
+  Has b = bytes_eq file.name name ≡ b
+
+  later-place : (at : ℕ) → Has false → IsPlaceOf files name at → IsPlaceOf (file ∷ files) name (suc at)
+  later-place at is place = record {
+    within = omega (arith, place.within);
+    found = λ d. file_of-here file files name false is ∙ place.found d;
+    change = λ change d. changed-here change file files name false is
+        ∙ ap (λ files. file ∷ files) (place.change change d);
+  }
+
+  first-place : Has true → IsPlaceOf (file ∷ files) name zero
+  first-place is = record {
+    within = omega arith;
+    found = λ d. file_of-here file files name true is;
+    change = λ change d. changed-here change file files name true is;
+  }
+
+  before-here : Has true → before name (file ∷ files) ≡ zero
+  unfolding before
+  before-here is = ap (λ b. if not b then 1 + before name files else 0) is
+
+  before-later : Has false → before name (file ∷ files) ≡ suc (before name files)
+  unfolding before
+  before-later is = ap (λ b. if not b then 1 + before name files else 0) is ∙ omega arith
+
+  place-by : (b : Bool) → Has b → (before name files < length files → IsPlaceOf files name (before name files))
+      → before name (file ∷ files) < length (file ∷ files) → IsPlaceOf (file ∷ files) name (before name (file ∷ files))
+  place-by true is later within = rw (before-here is) (first-place is)
+  place-by false is later within =
+      let there : before name files < length files = omega (arith, before-later is) in
+      rw (before-later is) (later-place (before name files) is (later there))
+
+  no-place-by : (b : Bool) → Has b → (length files ≤ before name files → file_of files name ≡ None)
+      → length (file ∷ files) ≤ before name (file ∷ files) → file_of (file ∷ files) name ≡ None
+  no-place-by true is later past = absurd (omega (arith, before-here is))
+  no-place-by false is later past =
+      file_of-here file files name false is ∙ later (omega (arith, before-later is))
+
+module _ (name : List ℕ) where
+  place : (files : List MemFile) → before name files < length files → IsPlaceOf files name (before name files)
+  place [] within = absurd (omega arith)
+  place (file ∷ files) within = place-by name file files (bytes_eq file.name name) refl (place files) within
+
+  no-place : (files : List MemFile) → length files ≤ before name files → file_of files name ≡ None
+  no-place [] past = refl
+  no-place (file ∷ files) past = no-place-by name file files (bytes_eq file.name name) refl (no-place files) past
+
+  position-by : (b : Bool) (files : List MemFile) → nat_lt (before name files) (length files) ≡ b
+      → MatchOption (if b then Some (before name files) else None) (file_of files name ≡ None) (IsPlaceOf files name)
+  position-by true files is = place files (ltb-true (before name files) (length files) is)
+  position-by false files is = no-place files (ltb-false (before name files) (length files) is)
+
+  -- what `position` finds is the place of the file
+  pub placed : (files : List MemFile) (r : Option ℕ) → r ≡ position (λ file. bytes_eq file.name name) files
+      → MatchOption r (file_of files name ≡ None) (IsPlaceOf files name)
+  unfolding before
+  placed files r is =
+      let P : Option ℕ → Type 0 = λ r. MatchOption r (file_of files name ≡ None) (IsPlaceOf files name) in
+      subst P (sym is) (position-by (nat_lt (before name files) (length files)) files refl)
+
+-- ---- what a change leaves
 
 -- two files that go by the same names
 same-first : (first other : MemFile) (files others : List MemFile) (q : List ℕ) → other.name ≡ first.name
-    → (bytes_eq first.name q ≡ true → Some other ≡ Some first)
-    → file_of others q ≡ file_of files q → (b : Bool) → bytes_eq first.name q ≡ b → file_of (other ∷ others) q
-    ≡ file_of (first ∷ files) q
+    → (bytes_eq first.name q ≡ true → Some other ≡ Some first) → file_of others q ≡ file_of files q
+    → (b : Bool) → bytes_eq first.name q ≡ b → file_of (other ∷ others) q ≡ file_of (first ∷ files) q
 same-first first other files others q names same later true is =
     file_of-here other others q true (ap (λ own. bytes_eq own q) names ∙ is) ∙ same is
     ∙ sym (file_of-here first files q true is)
@@ -152,27 +109,64 @@ same-first first other files others q names same later false is =
     file_of-here other others q false (ap (λ own. bytes_eq own q) names ∙ is) ∙ later
     ∙ sym (file_of-here first files q false is)
 
-changed-other-by : (b : Bool) (change : MemFile → MemFile) (file : MemFile) (files : List MemFile) (name q : List ℕ)
-    → KeepsName change → q ≢ name
-    → bytes_eq file.name name ≡ b → file_of (changed change files name) q ≡ file_of files q
-    → file_of (changed change (file ∷ files) name) q ≡ file_of (file ∷ files) q
-changed-other-by true change file files name q keeps other is later =
-    ap (λ files. file_of files q) (changed-here change file files name true is)
-    ∙ same-first file (change file) files files q (keeps file)
-    (λ here. absurd (other (sym (same_text file.name q (sym here)) ∙ same_text file.name name (sym is)))) refl
-    (bytes_eq file.name q) refl
-changed-other-by false change file files name q keeps other is later =
-    ap (λ files. file_of files q) (changed-here change file files name false is)
-    ∙ same-first file file files (changed change files name) q refl (λ _. refl) later (bytes_eq file.name q) refl
+-- a change that keeps each file's name
+abbrev pub KeepsName : (MemFile → MemFile) → Type 0
+KeepsName change = (file : MemFile) → (change file).name ≡ file.name
 
--- the files of other names stay
-pub file_of-changed-other : (change : MemFile → MemFile) (files : List MemFile) (name q : List ℕ) → KeepsName change
-    → q ≢ name
-    → file_of (changed change files name) q ≡ file_of files q
-file_of-changed-other change [] name q keeps other = refl
-file_of-changed-other change (file ∷ files) name q keeps other =
-    changed-other-by (bytes_eq file.name name) change file files name q keeps other refl
-    (file_of-changed-other change files name q keeps other)
+module _ (change : MemFile → MemFile) where
+  changed-none-by : (b : Bool) (file : MemFile) (files : List MemFile) (name : List ℕ) → bytes_eq file.name name ≡ b
+      → (file_of files name ≡ None → changed change files name ≡ files) → file_of (file ∷ files) name ≡ None
+      → changed change (file ∷ files) name ≡ file ∷ files
+  changed-none-by true file files name is later none =
+      let here : file_of (file ∷ files) name ≡ Some file = file_of-here file files name true is in cc
+  changed-none-by false file files name is later none =
+      changed-here change file files name false is
+      ∙ ap (λ files. file ∷ files) (later (sym (file_of-here file files name false is) ∙ none))
+
+  pub changed-none : (files : List MemFile) (name : List ℕ) → file_of files name ≡ None
+      → changed change files name ≡ files
+  changed-none [] name none = refl
+  changed-none (file ∷ files) name none =
+      changed-none-by (bytes_eq file.name name) file files name refl (changed-none files name) none
+
+  file_of-changed-by : (b : Bool) (file : MemFile) (files : List MemFile) (name : List ℕ) → KeepsName change
+      → bytes_eq file.name name ≡ b → file_of (changed change files name) name ≡ option_map change (file_of files name)
+      → file_of (changed change (file ∷ files) name) name ≡ option_map change (file_of (file ∷ files) name)
+  file_of-changed-by true file files name keeps is later =
+      ap (λ files. file_of files name) (changed-here change file files name true is)
+      ∙ file_of-here (change file) files name true (ap (λ own. bytes_eq own name) (keeps file) ∙ is)
+      ∙ ap (option_map change) (sym (file_of-here file files name true is))
+  file_of-changed-by false file files name keeps is later =
+      ap (λ files. file_of files name) (changed-here change file files name false is)
+      ∙ file_of-here file (changed change files name) name false is ∙ later
+      ∙ ap (option_map change) (sym (file_of-here file files name false is))
+
+  -- the file of the name is changed
+  pub file_of-changed : (files : List MemFile) (name : List ℕ) → KeepsName change
+      → file_of (changed change files name) name ≡ option_map change (file_of files name)
+  file_of-changed [] name keeps = refl
+  file_of-changed (file ∷ files) name keeps =
+      file_of-changed-by (bytes_eq file.name name) file files name keeps refl (file_of-changed files name keeps)
+
+  changed-other-by : (b : Bool) (file : MemFile) (files : List MemFile) (name q : List ℕ) → KeepsName change
+      → q ≢ name → bytes_eq file.name name ≡ b → file_of (changed change files name) q ≡ file_of files q
+      → file_of (changed change (file ∷ files) name) q ≡ file_of (file ∷ files) q
+  changed-other-by true file files name q keeps other is later =
+      ap (λ files. file_of files q) (changed-here change file files name true is)
+      ∙ same-first file (change file) files files q (keeps file)
+      (λ here. absurd (other (sym (same_text file.name q (sym here)) ∙ same_text file.name name (sym is)))) refl
+      (bytes_eq file.name q) refl
+  changed-other-by false file files name q keeps other is later =
+      ap (λ files. file_of files q) (changed-here change file files name false is)
+      ∙ same-first file file files (changed change files name) q refl (λ _. refl) later (bytes_eq file.name q) refl
+
+  -- the files of other names stay
+  pub file_of-changed-other : (files : List MemFile) (name q : List ℕ) → KeepsName change → q ≢ name
+      → file_of (changed change files name) q ≡ file_of files q
+  file_of-changed-other [] name q keeps other = refl
+  file_of-changed-other (file ∷ files) name q keeps other =
+      changed-other-by (bytes_eq file.name name) file files name q keeps other refl
+      (file_of-changed-other files name q keeps other)
 
 -- what holds of the file of the name, and of each other one that stays, holds of all
 pub by-name : (P : List ℕ → Type 0) (name q : List ℕ) → P name → (q ≢ name → P q) → P q

@@ -5,7 +5,8 @@ use Rattle.scope_defs.specs.Scopes.{push, pieces}
 use Rattle.scope_defs.specs.StandardType.{type_of, type_of_name}
 use Rattle.scope_defs.specs.Selectors.{name_matches, path_holds}
 
-pub a_text_is_pushed_piece_by_piece : push (codes "s" ∷ []) (codes " a.b  c ") ≡ codes "s" ∷ codes "a.b" ∷ codes "c" ∷ []
+pub a_text_is_pushed_piece_by_piece : push (codes "s" ∷ []) (codes " a.b  c ")
+    ≡ codes "s" ∷ codes "a.b" ∷ codes "c" ∷ []
 a_text_is_pushed_piece_by_piece = refl
 
 pub spaces_push_nothing : push (codes "s" ∷ []) (codes "  ") ≡ codes "s" ∷ []
@@ -38,7 +39,8 @@ a_name_matches_its_parts = refl
 pub a_name_matches_whole_parts_alone : name_matches (codes "a") (codes "ab") ≡ false
 a_name_matches_whole_parts_alone = refl
 
-pub names_of_a_path_may_stand_apart : path_holds (codes "a" ∷ codes "b" ∷ []) (codes "a" ∷ codes "q" ∷ codes "b" ∷ []) ≡ true
+pub names_of_a_path_may_stand_apart : path_holds (codes "a" ∷ codes "b" ∷ []) (codes "a" ∷ codes "q" ∷ codes "b" ∷ [])
+    ≡ true
 names_of_a_path_may_stand_apart = refl
 
 pub names_of_a_path_stand_in_order : path_holds (codes "a" ∷ codes "b" ∷ []) (codes "b" ∷ codes "a" ∷ []) ≡ false

@@ -1,8 +1,10 @@
 -- Which text is a selector, and which entries it has. It is read sign by sign; a row for each sign says what it does
 -- to what was read before it. The syntax is that of vscode-textmate's matcher; that everything else is refused, the
 -- places of refusals and the limit on nesting are this project's own.
-use Rattle.std.specs.Prelude.{ℕ, zero, suc, ◌+◌, nat_lt, nat_eq, ◌==◌, List, [], ◌∷◌, ◌++◌, codes, length, sum_by, Bool, true, false, ◌&&◌, ◌||◌, if◌then◌else◌, Option, Some, None, Result, Ok, Err, ℤ, pos, negsuc}
-use Rattle.std.specs.List.{starts_with}
+use Rattle.std.specs.Prelude.{ℕ, zero, suc, ◌+◌, nat_lt, nat_eq, ◌==◌, List, [], ◌∷◌, ◌++◌, codes, length, sum_by}
+use Rattle.std.specs.Prelude.{Bool, true, false, ◌&&◌, ◌||◌, if◌then◌else◌, Option, Some, None, unwrap_or, slice_get}
+use Rattle.std.specs.Prelude.{Result, Ok, Err, ℤ, pos, negsuc}
+use Rattle.std.specs.Result.{result_unwrap_or}
 use Rattle.scope_defs.specs.declared.limits.TheConstants.{MOST_NESTED}
 use Rattle.scope_defs.specs.Scopes.{Name}
 use Rattle.scope_defs.specs.StandardType.{is_word_char}
@@ -25,10 +27,11 @@ pub data Stand : Type 0 where
   Naming : (names : List Name) (name : Name) (begins : Bool) → Stand
   -- the names of a path, and spaces
   Spaced : (names : List Name) → Stand
-  -- a parenthesis that closes, and spaces
-  Closed : Stand
+  -- a parenthesis that closes, and spaces; what stands inside it
+  Closed : (inside : Matcher) → Stand
 
--- what is read: the entries before the one at hand, its priority, the levels that are open around the innermost from the
+-- what is read: the entries before the one at hand, its priority, the levels that are open around the innermost from
+-- the
 -- inside out, the innermost, and what stands before the place
 pub record Reading : Type 0 where
   pub entries : List Entry
@@ -58,45 +61,38 @@ abbrev pub or_also : Option Matcher → Matcher → Matcher
 or_also None matcher = matcher
 or_also (Some before) matcher = Either before matcher
 
--- a level with one more operand, behind its minus signs
-abbrev pub with_operand : Matcher → Level → Level
-with_operand matcher level = record level { both = Some (and_also level.both (negated level.minuses matcher)); minuses = 0 }
+-- the operand that ends where something stands, if one does
+abbrev pub operand_of : Stand → Option Matcher
+operand_of Start = None
+operand_of Wanting = None
+operand_of (Naming names name begins) = Some (Path (names ++ name ∷ []))
+operand_of (Spaced names) = Some (Path names)
+operand_of (Closed inside) = Some inside
 
--- a level with the operand that ends where something stands
-abbrev pub ended : Stand → Level → Level
-ended Start level = level
-ended Wanting level = level
-ended (Naming names name begins) level = with_operand (Path (names ++ name ∷ [])) level
-ended (Spaced names) level = with_operand (Path names) level
-ended Closed level = level
+-- the operands of a level with one more, behind its minus signs
+abbrev pub all_of : Level → Matcher → Matcher
+all_of level operand = and_also level.both (negated level.minuses operand)
 
--- whether an operand may end there
-abbrev pub ends_operand : Stand → Bool
-ends_operand Start = false
-ends_operand Wanting = false
-ends_operand (Naming names name begins) = true
-ends_operand (Spaced names) = true
-ends_operand Closed = true
+-- what a level stands for whose last operand that is
+abbrev pub whole : Level → Matcher → Matcher
+whole level operand = or_also level.either (all_of level operand)
 
--- what a level stands for whose last operand has ended
-abbrev pub alternatives : Level → Option Matcher
-alternatives level = elim level.both as (λ _. Option Matcher) [ None ↦ None | Some both ↦ Some (or_also level.either both) ]
+-- a level behind an operand
+abbrev pub with_operand : Option Matcher → Level → Level
+with_operand None level = level
+with_operand (Some operand) level = record level { both = Some (all_of level operand); minuses = 0 }
+
+-- the level at hand, with the operand that ends there
+abbrev pub ended : Reading → Level
+ended r = with_operand (operand_of r.stand) r.level
 
 -- a level behind a sign that parts alternatives
-abbrev pub next_alternative : Level → Level
-next_alternative level = record { either = alternatives level; both = None; minuses = 0 }
+abbrev pub next_alternative : Matcher → Level
+next_alternative before = record { either = Some before; both = None; minuses = 0 }
 
-abbrev pub with_group : Option Matcher → Level → Level
-with_group None level = level
-with_group (Some matcher) level = with_operand matcher level
-
--- the entries of what is read, with the one at hand
-abbrev pub with_entry : List Entry → ℤ → Option Matcher → List Entry
-with_entry entries priority None = entries
-with_entry entries priority (Some matcher) = entries ++ record { priority = priority; matcher = matcher } ∷ []
-
-abbrev pub all_entries : Reading → List Entry
-all_entries r = with_entry r.entries r.priority (alternatives (ended r.stand r.level))
+-- an entry behind those before it
+abbrev pub with_entry : Reading → Matcher → List Entry
+with_entry r operand = r.entries ++ record { priority = r.priority; matcher = whole r.level operand } ∷ []
 
 -- signs
 
@@ -134,11 +130,17 @@ abbrev pub on_space : Stand → Reading → Option Reading
 on_space (Naming names name begins) r = stands (Spaced (names ++ name ∷ [])) r
 on_space other r = Some r
 
+-- a name is this one character
+abbrev pub is_only : ℕ → Name → Bool
+is_only letter [] = false
+is_only letter (c ∷ []) = c == letter
+is_only letter (c ∷ d ∷ cs) = false
+
 -- a colon behind an `L` or an `R` that begins its entry sets the priority
 abbrev pub priority_by : Bool → Name → ℕ → Option ℤ
 priority_by begins name c =
-    if begins && ((c == 58) && starts_with nat_eq (codes "L") name) then Some (negsuc 0) else
-    if begins && ((c == 58) && starts_with nat_eq (codes "R") name) then Some (pos 1) else None
+    if begins && ((c == 58) && is_only 76 name) then Some (negsuc 0) else
+    if begins && ((c == 58) && is_only 82 name) then Some (pos 1) else None
 
 abbrev pub in_name : Option ℤ → List Name → Name → Bool → Reading → Option Reading
 in_name None names name begins r = stands (Naming names name begins) r
@@ -150,14 +152,14 @@ on_letter c Start r = stands (Naming [] (c ∷ []) true) r
 on_letter c Wanting r = stands (Naming [] (c ∷ []) false) r
 on_letter c (Naming names name begins) r = in_name (priority_by begins name c) names (name ++ c ∷ []) begins r
 on_letter c (Spaced names) r = stands (Naming names (c ∷ []) false) r
-on_letter c Closed r = stands (Naming [] (c ∷ []) false) r
+on_letter c (Closed inside) r = Some (record r { level = ended r; stand = Naming [] (c ∷ []) false })
 
 -- the level at hand has one more minus sign
 abbrev pub with_minus : Level → Level
 with_minus level = record level { minuses = level.minuses + 1 }
 
 abbrev pub begins_minus : Reading → Option Reading
-begins_minus r = Some (record r { level = with_minus (ended r.stand r.level); stand = Wanting })
+begins_minus r = Some (record r { level = with_minus (ended r); stand = Wanting })
 
 -- a minus goes on with a name, and else begins an operand
 abbrev pub on_minus : Stand → Reading → Option Reading
@@ -166,39 +168,39 @@ on_minus other r = begins_minus r
 
 -- a parenthesis begins an operand
 abbrev pub on_opening : Reading → Option Reading
-on_opening r = Some (record r { around = ended r.stand r.level ∷ r.around; level = empty_level; stand = Wanting })
+on_opening r = Some (record r { around = ended r ∷ r.around; level = empty_level; stand = Wanting })
 
-abbrev pub closed : Option Matcher → List Level → Reading → Option Reading
-closed matcher [] r = None
-closed matcher (outer ∷ around) r = Some (record r { around = around; level = with_group matcher outer; stand = Closed })
+-- a parenthesis that closes ends an operand, and is one with what stands inside
+abbrev pub on_closing : Option Matcher → List Level → Reading → Option Reading
+on_closing (Some operand) (outer ∷ around) r =
+    Some (record r { around = around; level = outer; stand = Closed (whole r.level operand) })
+on_closing _ _ r = None
 
-abbrev pub on_closing : Reading → Option Reading
-on_closing r = if ends_operand r.stand then closed (alternatives (ended r.stand r.level)) r.around r else None
-
-abbrev pub on_alternative : Reading → Option Reading
-on_alternative r = Some (record r { level = next_alternative (ended r.stand r.level); stand = Wanting })
+abbrev pub on_alternative : Matcher → Reading → Option Reading
+on_alternative operand r = Some (record r { level = next_alternative (whole r.level operand); stand = Wanting })
 
 -- a bar parts alternatives inside parentheses
-abbrev pub on_bar : List Level → Reading → Option Reading
-on_bar [] r = None
-on_bar (outer ∷ around) r = if ends_operand r.stand then on_alternative r else None
+abbrev pub on_bar : Option Matcher → List Level → Reading → Option Reading
+on_bar (Some operand) (outer ∷ around) r = on_alternative operand r
+on_bar _ _ r = None
 
-abbrev pub on_entry : Reading → Option Reading
-on_entry r = Some (record nothing { entries = all_entries r })
+abbrev pub on_entry : Matcher → Reading → Option Reading
+on_entry operand r = Some (record nothing { entries = with_entry r operand })
 
 -- a comma parts alternatives inside parentheses, and entries outside
-abbrev pub on_comma : List Level → Reading → Option Reading
-on_comma [] r = if ends_operand r.stand then on_entry r else None
-on_comma (outer ∷ around) r = if ends_operand r.stand then on_alternative r else None
+abbrev pub on_comma : Option Matcher → List Level → Reading → Option Reading
+on_comma None around r = None
+on_comma (Some operand) [] r = on_entry operand r
+on_comma (Some operand) (outer ∷ around) r = on_alternative operand r
 
 abbrev pub on_sign : Sign → ℕ → Reading → Option Reading
 on_sign Space c r = on_space r.stand r
 on_sign Letter c r = on_letter c r.stand r
 on_sign Minus c r = on_minus r.stand r
 on_sign Opens c r = on_opening r
-on_sign Closes c r = on_closing r
-on_sign Bar c r = on_bar r.around r
-on_sign Comma c r = on_comma r.around r
+on_sign Closes c r = on_closing (operand_of r.stand) r.around r
+on_sign Bar c r = on_bar (operand_of r.stand) r.around r
+on_sign Comma c r = on_comma (operand_of r.stand) r.around r
 on_sign Other c r = None
 
 -- what is read behind a character, where some selector has it there
@@ -219,7 +221,7 @@ begins_operand _ stand = false
 
 -- the parentheses and minus signs around an operand that begins
 abbrev pub nesting : Reading → ℕ
-nesting r = sum_by (λ (outer : Level). outer.minuses + 1) r.around + (ended r.stand r.level).minuses
+nesting r = sum_by (λ (outer : Level). outer.minuses + 1) r.around + (ended r).minuses
 
 -- an operand begins with a character in more than so many parentheses and minus signs
 abbrev pub is_too_deep : ℕ → ℕ → Reading → Bool
@@ -228,8 +230,9 @@ is_too_deep limit c r = begins_operand (sign_of c) r.stand && nat_lt limit (nest
 -- the whole text
 
 -- the entries where a text ends, or the place where something is wanting
-abbrev pub at_end : Reading → ℕ → Result (List Entry) ℕ
-at_end r at = if ends_operand r.stand && (length r.around == 0) then Ok (all_entries r) else Err at
+abbrev pub at_end : Option Matcher → List Level → Reading → ℕ → Result (List Entry) ℕ
+at_end (Some operand) [] r at = Ok (with_entry r operand)
+at_end _ _ r at = Err at
 
 abbrev pub on_step : Option Reading → ℕ → (Reading → ℕ → Result (List Entry) ℕ) → Result (List Entry) ℕ
 on_step None at next = Err at
@@ -237,7 +240,7 @@ on_step (Some r) at next = next r (at + 1)
 
 -- what is read of a text from a place on, behind what was read before it, at a limit on nesting
 abbrev pub read_on : ℕ → List ℕ → Reading → ℕ → Result (List Entry) ℕ
-read_on limit [] r at = at_end r at
+read_on limit [] r at = at_end (operand_of r.stand) r.around r at
 read_on limit (c ∷ cs) r at = if is_too_deep limit c r then Err at else on_step (step c r) at (read_on limit cs)
 
 -- the entries of a selector at a limit on nesting, or the place of the first character that isn't one's
@@ -247,3 +250,13 @@ read_within limit text = read_on limit text nothing 0
 -- the entries of a selector, or the place where it is refused
 abbrev pub read_selector : List ℕ → Result (List Entry) ℕ
 read_selector text = read_within MOST_NESTED text
+
+abbrev pub entries_of : List ℕ → List Entry
+entries_of text = result_unwrap_or (read_selector text) []
+
+abbrev pub no_entry : Entry
+no_entry = record { priority = pos 0; matcher = Path [] }
+
+-- entry `n` of a selector, from 0
+abbrev pub entry_at : List ℕ → ℕ → Entry
+entry_at text n = unwrap_or (slice_get (entries_of text) n) no_entry

@@ -30,7 +30,8 @@ name_matches name scope = starts_with nat_eq scope name && ends_part (drop (leng
 abbrev pub path_holds : List Name → Scopes → Bool
 path_holds [] scopes = true
 path_holds (name ∷ names) [] = false
-path_holds (name ∷ names) (scope ∷ scopes) = (name_matches name scope && path_holds names scopes) || path_holds (name ∷ names) scopes
+path_holds (name ∷ names) (scope ∷ scopes) =
+    (name_matches name scope && path_holds names scopes) || path_holds (name ∷ names) scopes
 
 abbrev pub holds : Matcher → Scopes → Bool
 holds (Path names) scopes = path_holds names scopes

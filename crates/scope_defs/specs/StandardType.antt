@@ -1,6 +1,7 @@
 -- The standard type of scopes: that of the last scope that sets one. The words are those of vscode-textmate's
 -- toStandardTokenType; where a word may stand is this project's own.
-use Rattle.std.specs.Prelude.{ℕ, nat_eq, nat_le, ◌==◌, List, [], ◌∷◌, length, drop, codes, Bool, true, not, ◌&&◌, ◌||◌, if◌then◌else◌, Option, Some, None}
+use Rattle.std.specs.Prelude.{ℕ, nat_eq, nat_le, ◌==◌, List, [], ◌∷◌, length, drop, codes, Bool, true, not, ◌&&◌}
+use Rattle.std.specs.Prelude.{◌||◌, if◌then◌else◌, Option, Some, None}
 use Rattle.std.specs.List.{starts_with, filter_map}
 use Rattle.scope_defs.specs.declared.types.StdType.{StdType}
 use Rattle.scope_defs.specs.declared.types.StdType.TheVariants.{Other, Comment, Text, RegEx}
@@ -8,7 +9,8 @@ use Rattle.scope_defs.specs.Scopes.{Name, Scopes}
 
 -- an ASCII letter, an ASCII digit or a low line
 abbrev pub is_word_char : ℕ → Bool
-is_word_char c = (nat_le 97 c && nat_le c 122) || ((nat_le 65 c && nat_le c 90) || ((nat_le 48 c && nat_le c 57) || (c == 95)))
+is_word_char c = (nat_le 97 c && nat_le c 122) ||
+    ((nat_le 65 c && nat_le c 90) || ((nat_le 48 c && nat_le c 57) || (c == 95)))
 
 -- no such character stands at the front of a text
 abbrev pub ends_word : List ℕ → Bool

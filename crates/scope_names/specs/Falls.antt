@@ -12,9 +12,15 @@ use Rattle.scope_names.specs.View.{names_of, pushed_names, Keeps, KeepsAll}
 -- how many names a list has whose last are those of one push
 pub pushed_length : (p : Pushed) → Keeps p → length (pushed_names p) ≡ p.len
 pushed_length p keeps =
-    omega (arith, length-append p.below (take (p.len - length p.below) p.name), length-take-le (p.len - length p.below) p.name (omega (arith, keeps.within)))
+    omega (
+      arith,
+      length-append p.below (take (p.len - length p.below) p.name),
+      length-take-le
+          (p.len - length p.below) p.name (omega (arith, keeps.within)),
+    )
 
-top_falls : (top : Option (Rc Pushed Global)) → KeepsAll top → deep-Scopes (record { top = top }) ≤ length (names_of top)
+top_falls : (top : Option (Rc Pushed Global)) → KeepsAll top
+    → deep-Scopes (record { top = top }) ≤ length (names_of top)
 top_falls None keeps = omega arith
 top_falls (Some shared) keeps = let h = pushed_length shared.value keeps in omega arith
 

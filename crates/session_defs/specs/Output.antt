@@ -1,13 +1,13 @@
 -- All that the program writes for a text file and a script.
-use Rattle.std.specs.Prelude.{ℕ, ◌^◌, ◌==◌, ◌&&◌, List, [], ◌∷◌, ◌++◌, length, map, nat_le, Bool, if◌then◌else◌}
+use Rattle.std.specs.Prelude.{ℕ, ◌&&◌, List, [], ◌∷◌, ◌++◌, length, map, nat_le, Bool}
 use Rattle.text_pos.specs.declared.limits.Limits.{Limits}
 use Rattle.document_defs.specs.TextRows.{Settings, usual}
 use Rattle.text_defs.specs.declared.limits.TheConstants.{MOST_FILE_BYTES}
 use Rattle.text_defs.specs.Text.{text_of, is_text, whole_lines, unfinished}
 use Rattle.script_words.specs.ReplyText.{reply_text}
-use Rattle.script_words.specs.Script.{Reading, reading_of}
+use Rattle.script_words.specs.Script.{reading_of}
 use Rattle.session_defs.specs.declared.limits.TheConstants.{MOST_SCRIPT_BYTES}
-use Rattle.session_defs.specs.Session.{replies_to, text_behind, opened}
+use Rattle.session_defs.specs.Session.{replies_to, opened}
 
 -- the largest file
 abbrev pub most_file_bytes : ℕ

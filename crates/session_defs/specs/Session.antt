@@ -1,7 +1,7 @@
 -- A session: each line of the script has one reply, and what it leaves is a text. This is this project's own.
-use Rattle.std.specs.Prelude.{ℕ, List, [], ◌∷◌, ◌++◌, length, Bool, true, false, if◌then◌else◌, Option, Some, None}
-use Rattle.text_defs.specs.Text.{line_count, whole_lines, unfinished}
-use Rattle.text_defs.specs.Batch.{TextEdit, BatchRefusal, range, order, too_many_chars, too_many_lines, batch_refusal, edited}
+use Rattle.std.specs.Prelude.{ℕ, List, [], ◌∷◌, ◌++◌, Option, Some, None}
+use Rattle.text_defs.specs.Text.{line_count}
+use Rattle.text_defs.specs.Batch.{BatchRefusal, range, order, too_many_chars, too_many_lines, batch_refusal, edited}
 use Rattle.answer_defs.specs.declared.answer.Question.{Question}
 use Rattle.answer_defs.specs.declared.refusal.QuestionRefusal.{QuestionRefusal}
 use Rattle.answer_defs.specs.declared.refusal.QuestionRefusal.TheVariants as cause

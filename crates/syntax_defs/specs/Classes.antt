@@ -1,6 +1,8 @@
 -- Classes: sets of characters between brackets. The forms are those of Oniguruma's RE with Ruby syntax; that a `-`
 -- beside a set is itself, and that letters are joined with their other case before all else, is this project's own.
-use Rattle.std.specs.Prelude.{ℕ, zero, suc, ◌+◌, ◌-◌, ◌==◌, nat_lt, nat_eq, List, [], ◌∷◌, length, drop, slice_range, Bool, true, false, ◌&&◌, ◌||◌, not, if◌then◌else◌, is_none, Option, Some, None, Result, Ok, Err}
+use Rattle.std.specs.Prelude.{ℕ, zero, suc, ◌+◌, ◌-◌, ◌==◌, nat_lt, nat_eq, List, [], ◌∷◌, length, drop, slice_range}
+use Rattle.std.specs.Prelude.{Bool, true, false, ◌&&◌, ◌||◌, not, if◌then◌else◌, is_none, Option, Some, None, Result}
+use Rattle.std.specs.Prelude.{Ok, Err}
 use Rattle.std.specs.List.{prefix_len, starts_with}
 use Rattle.char_sets.specs.Case.{other_case, is_from_to}
 use Rattle.char_sets.specs.Named.{is_word}
@@ -10,7 +12,8 @@ use Rattle.syntax_defs.specs.declared.class_part.ClassPart.TheVariants as parts
 use Rattle.syntax_defs.specs.Limits.{most_levels}
 use Rattle.syntax_defs.specs.Reading.{Fault, Syntax, LeftOut, TooDeep, Read, ◌>>=◌}
 use Rattle.syntax_defs.specs.Sights.{begins_with, is_name_start}
-use Rattle.syntax_defs.specs.Escapes.{Escaped, Char, Set, Escape, escaped_char, escaped_set, complement_if, behind_backslash, named_bracket}
+use Rattle.syntax_defs.specs.Escapes.{Escaped, Char, Set, Escape, escaped_char, escaped_set, complement_if}
+use Rattle.syntax_defs.specs.Escapes.{behind_backslash, named_bracket}
 
 -- reading a set at a place
 abbrev pub SetReader : Type 0
@@ -47,7 +50,8 @@ Bracket = Bool × ℕ × ℕ
 abbrev pub named_by : (negated : Bool) (from : ℕ) → List ℕ → Option Bracket
 named_by negated from rest =
     let long = name_length rest in
-    if nat_lt 0 long && starts_with nat_eq (drop long rest) (58 ∷ 93 ∷ []) then Some (negated, from, from + long) else None
+    if nat_lt 0 long && starts_with nat_eq (drop long rest) (58 ∷ 93 ∷ []) then Some (negated, from, from + long) else
+    None
 
 unfoldable pub behind_colon : List ℕ → Option Bracket
 behind_colon [] = named_by false 1 []
@@ -110,7 +114,8 @@ range_end place [] = None
 range_end place (c ∷ rest) = if c == 45 then range_char_at (place + 1) rest else None
 
 -- a range from `first` on, or the one character, which ends at `next`
-abbrev pub range_or_one : (fold : Bool) (place first next : ℕ) → List ℕ → Option (Read ℕ) → Result (Read (ℕ → Bool)) Fault
+abbrev pub range_or_one : (fold : Bool) (place first next : ℕ) → List ℕ → Option (Read ℕ)
+    → Result (Read (ℕ → Bool)) Fault
 range_or_one fold place first next rest None =
     Ok (record { value = is_char_folded fold first; place = next; rest = rest })
 range_or_one fold place first next rest (Some last) =
@@ -153,7 +158,8 @@ part_at first (c ∷ rest) =
     else if c == 91 && is_none (bracket_at rest) then parts.Class
     else parts.Member
 
-abbrev pub by_part : (go : Sides → SetReader) (nested : SetReader) (fold : Bool) → Sides → (place : ℕ) → List ℕ → ClassPart → Result (Read (ℕ → Bool)) Fault
+abbrev pub by_part : (go : Sides → SetReader) (nested : SetReader) (fold : Bool) → Sides → (place : ℕ) → List ℕ
+    → ClassPart → Result (Read (ℕ → Bool)) Fault
 by_part go nested fold sides place rest parts.End = Err (Syntax place)
 by_part go nested fold sides place rest parts.Close =
     Ok (record { value = together sides; place = place + 1; rest = drop 1 rest })

@@ -1,6 +1,8 @@
 -- Escapes that are one character or a set of characters. The forms are those of Oniguruma's RE with Ruby syntax;
 -- which are left out, and that names of sets are those of this project, is its own.
-use Rattle.std.specs.Prelude.{ℕ, ◌+◌, ◌*◌, ◌==◌, nat_lt, List, [], ◌∷◌, codes, length, map, filter, take, drop, fold, position, Bool, true, false, ◌&&◌, ◌||◌, not, if◌then◌else◌, Option, Some, None, Result, Ok, Err}
+use Rattle.std.specs.Prelude.{ℕ, ◌+◌, ◌*◌, ◌==◌, nat_lt, List, [], ◌∷◌, codes, length, map, filter, take, drop, fold}
+use Rattle.std.specs.Prelude.{position, Bool, true, false, ◌&&◌, ◌||◌, not, if◌then◌else◌, Option, Some, None, Result}
+use Rattle.std.specs.Prelude.{Ok, Err}
 use Rattle.std.specs.List.{prefix_len}
 use Rattle.std.specs.Option.{option_map, option_or}
 use Rattle.std.specs.Str.{bytes_eq}
@@ -31,7 +33,12 @@ abbrev pub escaped_char : (c next : ℕ) → List ℕ → Escape
 escaped_char c next rest = Ok (record { value = Char c; place = next; rest = rest })
 
 abbrev pub escaped_set : (set : NamedSet × Bool) → (next : ℕ) → List ℕ → Escape
-escaped_set set next rest = Ok (record { value = Set (complement_if set.1 (in_named set.0)); place = next; rest = rest })
+escaped_set set next rest = Ok (record {
+  value = Set (complement_if set.1 (in_named set.0));
+  place = next;
+  rest =
+      rest;
+})
 
 -- names of sets
 
@@ -212,7 +219,8 @@ unicode_at place rest =
 -- the closing brace of `\x{H}`, behind so many digits
 abbrev pub brace_at : (place code next : ℕ) → List ℕ → Escape
 brace_at place code next [] = Err (Syntax next)
-brace_at place code next (c ∷ rest) = if c == 125 then scalar_or_fault place code (next + 1) rest else Err (LeftOut place)
+brace_at place code next (c ∷ rest) = if c == 125 then scalar_or_fault place code (next + 1) rest else Err
+    (LeftOut place)
 
 -- `\x{H}` with at most eight digits, what stands behind the `{` given
 unfoldable pub braced_at : (place : ℕ) → List ℕ → Escape

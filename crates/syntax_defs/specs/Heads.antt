@@ -1,6 +1,7 @@
 -- The heads of forms in parentheses, and names. The forms are those of Oniguruma's RE with Ruby syntax; which are
 -- left out is this project's own.
-use Rattle.std.specs.Prelude.{ℕ, ◌+◌, ◌==◌, List, [], ◌∷◌, length, take, drop, Bool, true, false, ◌&&◌, ◌||◌, not, if◌then◌else◌, Some, None, Result, Ok, Err}
+use Rattle.std.specs.Prelude.{ℕ, ◌+◌, ◌==◌, List, [], ◌∷◌, length, take, drop, Bool, true, false, ◌&&◌, ◌||◌, not}
+use Rattle.std.specs.Prelude.{if◌then◌else◌, Some, None, Result, Ok, Err}
 use Rattle.std.specs.Char.{is_ascii_digit}
 use Rattle.std.specs.List.{list_any, list_all, prefix_len}
 use Rattle.char_sets.specs.Named.{is_word}
@@ -39,7 +40,8 @@ is_name_or_number cs = is_name cs || is_number cs
 abbrev pub closed_word : (close begin end from : ℕ) → (word rest : List ℕ) → Result Span Fault
 closed_word close begin end from word [] = Err (Syntax end)
 closed_word close begin end from word (c ∷ cs) =
-    if (c == close) && not (is_empty word) then Ok (record { from = from; to = from + length word }) else Err (Syntax begin)
+    if (c == close) && not (is_empty word) then Ok (record { from = from; to = from + length word }) else Err
+    (Syntax begin)
 
 -- The word from a place on, which is to be good, in an item that begins at another place, of a text that ends at a
 -- third. A bad character goes before the text's end.
@@ -82,7 +84,8 @@ option_end options changes begin end place (c ∷ cs) =
 -- behind the `-`
 abbrev pub minus_head : Options → List ℕ → (begin end : ℕ) → List ℕ → Result (Head × ℕ) Fault
 minus_head options on begin end cs =
-    option_end (with_options options on (letters cs)) true begin end (begin + 3 + length on + letter_count cs) (behind_letters cs)
+    option_end (with_options options on (letters cs)) true begin end (begin + 3 + length on + letter_count cs)
+    (behind_letters cs)
 
 -- letters, and behind a `-` letters again
 abbrev pub letter_head : Options → List ℕ → (begin end : ℕ) → List ℕ → Result (Head × ℕ) Fault
@@ -96,7 +99,8 @@ option_head options begin end cs = letter_head options (letters cs) begin end (b
 -- forms
 
 abbrev pub named_head : (close begin end from : ℕ) → List ℕ → Result (Head × ℕ) Fault
-named_head close begin end from cs = word_at is_name close begin end from cs >>= λ name. Ok (Numbered (Some name), name.to + 1)
+named_head close begin end from cs = word_at is_name close begin end from cs >>= λ name. Ok
+    (Numbered (Some name), name.to + 1)
 
 -- behind `(?<`
 abbrev pub angle_head : (begin end : ℕ) → List ℕ → Result (Head × ℕ) Fault

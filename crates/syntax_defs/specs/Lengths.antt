@@ -1,12 +1,15 @@
 -- Tests of a whole text: how long what a lookbehind sees is, and whether the groups of back references are there.
-use Rattle.std.specs.Prelude.{ℕ, ◌+◌, ◌*◌, ◌==◌, nat_le, nat_lt, min, List, [], ◌∷◌, ◌++◌, length, fold, find, slice_get, Bool, true, false, ◌&&◌, if◌then◌else◌, Option, Some, None, is_none, option_and_then, Result, Ok, Err}
+use Rattle.std.specs.Prelude.{ℕ, ◌+◌, ◌*◌, ◌==◌, nat_le, nat_lt, min, List, [], ◌∷◌, ◌++◌, length, fold, find}
+use Rattle.std.specs.Prelude.{slice_get, Bool, true, false, ◌&&◌, if◌then◌else◌, Option, Some, None, is_none}
+use Rattle.std.specs.Prelude.{option_and_then, Result, Ok, Err}
 use Rattle.std.specs.List.{list_any, list_all}
 use Rattle.pattern_defs.specs.declared.nodes.ListId.{ListId}
 use Rattle.syntax_defs.specs.declared.items.GroupName.{GroupName}
 use Rattle.syntax_defs.specs.declared.items.Target.{Target}
 use Rattle.syntax_defs.specs.declared.items.Target.TheVariants as targets
 use Rattle.syntax_defs.specs.declared.items.Item.{Item}
-use Rattle.syntax_defs.specs.declared.items.Item.TheVariants.{One, At, Choice, Group, Repeat, Ahead, Behind, Atomic, Back}
+use Rattle.syntax_defs.specs.declared.items.Item.TheVariants.{One, At, Choice, Group, Repeat, Ahead, Behind, Atomic}
+use Rattle.syntax_defs.specs.declared.items.Item.TheVariants.{Back}
 use Rattle.syntax_defs.specs.Limits.{most_pattern_chars, most_length}
 use Rattle.syntax_defs.specs.Reading.{Fault, LeftOut, TooLong, ◌>>=◌}
 use Rattle.syntax_defs.specs.PatternSyntax.{Parsed, parse, is_named}
@@ -89,7 +92,8 @@ group_of text parsed (targets.Name name) = number_of_name (find (is_named text n
 -- the place of an item that can't be kept: its group isn't there, or an alternative has an open length
 abbrev pub late_place : List ℕ → Parsed → List (Option ℕ) → Item → Option ℕ
 late_place text parsed lengths (Back at target fold) = if is_none (group_of text parsed target) then Some at else None
-late_place text parsed lengths (Behind at arms wanted) = if list_any (λ id. is_none (length_of lengths id)) arms then Some at else None
+late_place text parsed lengths (Behind at arms wanted) =
+    if list_any (λ id. is_none (length_of lengths id)) arms then Some at else None
 late_place text parsed lengths item = None
 
 abbrev pub earlier : Option ℕ → Option ℕ → Option ℕ
@@ -100,11 +104,13 @@ earlier (Some m) (Some n) = Some (min m n)
 -- the first place of such an item
 abbrev pub late_in : List ℕ → Parsed → List (Option ℕ) → Option ℕ → List Item → Option ℕ
 late_in text parsed lengths found [] = found
-late_in text parsed lengths found (item ∷ items) = late_in text parsed lengths (earlier found (late_place text parsed lengths item)) items
+late_in text parsed lengths found (item ∷ items) =
+    late_in text parsed lengths (earlier found (late_place text parsed lengths item)) items
 
 abbrev pub late_among : List ℕ → Parsed → List (Option ℕ) → Option ℕ → List (List Item) → Option ℕ
 late_among text parsed lengths found [] = found
-late_among text parsed lengths found (items ∷ lists) = late_among text parsed lengths (late_in text parsed lengths found items) lists
+late_among text parsed lengths found (items ∷ lists) =
+    late_among text parsed lengths (late_in text parsed lengths found items) lists
 
 abbrev pub late_fault : List ℕ → Parsed → Option ℕ
 late_fault text parsed = late_among text parsed (lengths_of parsed.lists) None parsed.lists

@@ -8,7 +8,8 @@ use Rattle.pattern_defs.specs.declared.nodes.PatNode.{PatNode}
 use Rattle.pattern_defs.specs.declared.nodes.PatNode.TheVariants as nodes
 use Rattle.pattern_defs.specs.Patterns.{NodeLists, Tree}
 use Rattle.syntax_defs.specs.declared.items.Item.{Item}
-use Rattle.syntax_defs.specs.declared.items.Item.TheVariants.{One, At, Choice, Group, Repeat, Ahead, Behind, Atomic, Back}
+use Rattle.syntax_defs.specs.declared.items.Item.TheVariants.{One, At, Choice, Group, Repeat, Ahead, Behind, Atomic}
+use Rattle.syntax_defs.specs.declared.items.Item.TheVariants.{Back}
 use Rattle.syntax_defs.specs.Reading.{Fault, Read}
 use Rattle.syntax_defs.specs.Singles.{single_at}
 use Rattle.syntax_defs.specs.PatternSyntax.{Parsed}
@@ -25,28 +26,34 @@ arm_of lengths id = record { length = unwrap_or (length_of lengths id) 0; body =
 
 -- the node stands for the item of a text, whose lists have lengths
 abbrev pub FitsItem : List ℕ → Parsed → List (Option ℕ) → PatNode → Item → Type 0
-FitsItem text parsed lengths (nodes.One set) (One at options depth) = IsSetRead set (single_at options depth at (drop at text))
+FitsItem text parsed lengths (nodes.One set) (One at options depth) =
+    IsSetRead set (single_at options depth at (drop at text))
 FitsItem text parsed lengths (nodes.At anchor) (At wanted) = anchor ≡ wanted
 FitsItem text parsed lengths (nodes.Choice ids) (Choice wanted) = ids ≡ wanted
 FitsItem text parsed lengths (nodes.Group number body) (Group n id) = (number ≡ n) × (body ≡ id)
-FitsItem text parsed lengths (nodes.Repeat body least most greedy) (Repeat id m n g) = (body ≡ id) × (least ≡ m) × (most ≡ n) × (greedy ≡ g)
+FitsItem text parsed lengths (nodes.Repeat body least most greedy) (Repeat id m n g) =
+    (body ≡ id) × (least ≡ m) × (most ≡ n) × (greedy ≡ g)
 FitsItem text parsed lengths (nodes.Ahead body wanted) (Ahead id w) = (body ≡ id) × (wanted ≡ w)
-FitsItem text parsed lengths (nodes.Behind arms wanted) (Behind at ids w) = (arms ≡ map (arm_of lengths) ids) × (wanted ≡ w)
+FitsItem text parsed lengths (nodes.Behind arms wanted) (Behind at ids w) =
+    (arms ≡ map (arm_of lengths) ids) × (wanted ≡ w)
 FitsItem text parsed lengths (nodes.Atomic body) (Atomic id) = body ≡ id
-FitsItem text parsed lengths (nodes.Back number fold) (Back at target f) = (group_of text parsed target ≡ Some number) × (fold ≡ f)
+FitsItem text parsed lengths (nodes.Back number fold) (Back at target f) =
+    (group_of text parsed target ≡ Some number) × (fold ≡ f)
 FitsItem text parsed lengths _ _ = ⊥
 
 abbrev pub FitsItems : List ℕ → Parsed → List (Option ℕ) → List PatNode → List Item → Type 0
 FitsItems text parsed lengths [] [] = Unit {0}
 FitsItems text parsed lengths [] (item ∷ items) = ⊥
 FitsItems text parsed lengths (node ∷ nodes) [] = ⊥
-FitsItems text parsed lengths (node ∷ nodes) (item ∷ items) = FitsItem text parsed lengths node item × FitsItems text parsed lengths nodes items
+FitsItems text parsed lengths (node ∷ nodes) (item ∷ items) =
+    FitsItem text parsed lengths node item × FitsItems text parsed lengths nodes items
 
 abbrev pub FitsLists : List ℕ → Parsed → List (Option ℕ) → NodeLists → List (List Item) → Type 0
 FitsLists text parsed lengths [] [] = Unit {0}
 FitsLists text parsed lengths [] (items ∷ lists) = ⊥
 FitsLists text parsed lengths (nodes ∷ trees) [] = ⊥
-FitsLists text parsed lengths (nodes ∷ trees) (items ∷ lists) = FitsItems text parsed lengths nodes items × FitsLists text parsed lengths trees lists
+FitsLists text parsed lengths (nodes ∷ trees) (items ∷ lists) =
+    FitsItems text parsed lengths nodes items × FitsLists text parsed lengths trees lists
 
 -- the pattern stands for what is read from the text
 pub record StandsFor (text : List ℕ) (tree : Tree) (parsed : Parsed) : Type 0 where

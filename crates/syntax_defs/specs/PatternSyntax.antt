@@ -1,6 +1,7 @@
 -- Reading a pattern text from left to right: its items in numbered lists, or the first fault. Lists are numbered in
 -- the order in which they end, which is this project's own, as are the limits.
-use Rattle.std.specs.Prelude.{ℕ, zero, suc, ◌+◌, ◌-◌, ◌==◌, nat_lt, nat_le, List, [], ◌∷◌, ◌++◌, length, drop, min, Bool, true, false, ◌||◌, not, if◌then◌else◌, Option, Some, None, Result, Ok, Err}
+use Rattle.std.specs.Prelude.{ℕ, zero, suc, ◌+◌, ◌-◌, ◌==◌, nat_lt, nat_le, List, [], ◌∷◌, ◌++◌, length, drop, min}
+use Rattle.std.specs.Prelude.{Bool, true, false, ◌||◌, not, if◌then◌else◌, Option, Some, None, Result, Ok, Err}
 use Rattle.std.specs.List.{list_any, prefix_len}
 use Rattle.std.specs.Str.{bytes_eq}
 use Rattle.pattern_defs.specs.declared.nodes.ListId.{ListId}
@@ -15,7 +16,8 @@ use Rattle.syntax_defs.specs.declared.items.Bounds.{Bounds}
 use Rattle.syntax_defs.specs.declared.items.Form.{Form}
 use Rattle.syntax_defs.specs.declared.items.Form.TheVariants.{Sign, Count}
 use Rattle.syntax_defs.specs.declared.items.Sight.{Sight}
-use Rattle.syntax_defs.specs.declared.items.Sight.TheVariants.{End, Bar, Close, Blank, Remark, Comment, Repeat, Open, Edge, Number, Reference, Single}
+use Rattle.syntax_defs.specs.declared.items.Sight.TheVariants.{End, Bar, Close, Blank, Remark, Comment, Repeat, Open}
+use Rattle.syntax_defs.specs.declared.items.Sight.TheVariants.{Edge, Number, Reference, Single}
 use Rattle.syntax_defs.specs.declared.items.Head.{Head}
 use Rattle.syntax_defs.specs.declared.items.Head.TheVariants.{Numbered, Plain, Rest, Ahead, Behind, Atomic}
 use Rattle.syntax_defs.specs.Limits.{most_levels, most_repeats, most_count}
@@ -137,7 +139,11 @@ is_possessive _ cs = false
 -- the last item repeated, behind so many characters more
 abbrev pub plain_repeat : Bounds → (greedy : Bool) → (more count : ℕ) → Body → Seen → Result Stepped Fault
 plain_repeat bounds greedy more count b s =
-    go_on (record b { last = items.Repeat (next_id s) bounds.least bounds.most greedy ∷ []; repeats = Some (count + 1) })
+    go_on (record b {
+      last = items.Repeat (next_id s) bounds.least bounds.most greedy ∷ [];
+      repeats =
+          Some (count + 1);
+    })
     (past (bounds.length + more) (with_list b.last s))
 
 abbrev pub atomic_of : Bounds → ListId → ℕ → Body → Seen → Result Stepped Fault
@@ -196,8 +202,11 @@ target_of text span = target_by (is_number (word_from text span.from)) (word_fro
 
 -- a backslash and a number
 abbrev pub number_item : Options → Seen → (List Item × Seen)
-number_item options s =
-    (back s.place (targets.Number (number_of (digits (drop 1 (rest_of s))))) options, past (1 + digit_count (drop 1 (rest_of s))) s)
+number_item options s = (
+  back s.place (targets.Number (number_of (digits (drop 1 (rest_of s))))) options,
+  past
+      (1 + digit_count (drop 1 (rest_of s))) s,
+)
 
 abbrev pub quoted_item : (close : ℕ) → Options → Seen → Result (List Item × Seen) Fault
 quoted_item close options s =
@@ -218,7 +227,11 @@ is_named text name known = bytes_eq (word_from text known.name.from) (word_from 
 -- a numbered group that begins
 abbrev pub with_group : Option Span → Seen → Seen
 with_group None s = record s { groups = s.groups + 1 }
-with_group (Some name) s = record s { groups = s.groups + 1; names = s.names ++ record { name = name; number = s.groups + 1 } ∷ [] }
+with_group (Some name) s = record s {
+  groups = s.groups + 1;
+  names =
+      s.names ++ record { name = name; number = s.groups + 1 } ∷ [];
+}
 
 -- what the head of a form that begins at a place does: a second group of one name is left out
 abbrev pub opened : Head → ℕ → Seen → Result Seen Fault
@@ -245,7 +258,11 @@ made (Numbered name) number begin b s = one_item (items.Group number) (body_list
 made (Plain options) number begin b s = body_items b s
 made (Rest options) number begin b s = body_items b s
 made (Ahead wanted) number begin b s = one_item (λ id. items.Ahead id wanted) (body_list b s)
-made (Behind wanted) number begin b s = (items.Behind begin (b.ended ++ next_id s ∷ []) wanted ∷ [], with_list (open_items b) s)
+made (Behind wanted) number begin b s = (
+  items.Behind begin (b.ended ++ next_id s ∷ []) wanted ∷ [],
+  with_list
+      (open_items b) s,
+)
 made Atomic number begin b s = one_item items.Atomic (body_list b s)
 
 abbrev pub group_at : BodyReader → Options → Seen → Result (List Item × Seen) Fault
@@ -288,7 +305,8 @@ after_step next false b s = Ok (b, s)
 -- Steps up to the body's end. The first number bounds how many; there are fewer, since each takes a character.
 unfoldable pub steps : BodyReader → ℕ → ℕ → Options → Body → Seen → Result (Body × Seen) Fault
 steps go zero levels options b s = Err (Syntax s.place)
-steps go (suc count) levels options b s = step go levels options b s >>= λ r. after_step (steps go count levels options) r.more r.body r.seen
+steps go (suc count) levels options b s =
+    step go levels options b s >>= λ r. after_step (steps go count levels options) r.more r.body r.seen
 
 -- The body of a form or of the whole, which takes one level; in it forms may open in what is left, one in another.
 unfoldable pub body_at : ℕ → BodyReader

@@ -30,17 +30,19 @@ Fails (refusals.TooLong count) read = read ≡ Err (TooLong count)
 Fails refusals.Memory read = Unit {0}
 
 -- a value that fits what is read, and the place behind it in the text
-pub record Fitting {X Y : Type 0} (Fits : X → Y → Type 0) (text : List ℕ) (x : X) (next : ℕ) (read : Read Y) : Type 0 where
-  pub value : Fits x read.value
-  pub place : next ≡ read.place
-  pub rest : drop next text ≡ read.rest
+pub record Fitting {X Y : Type 0} (Fits : X → Y → Type 0) (text : List ℕ) (x : X) (next : ℕ) (read : Read Y) : Type 0
+  where
+    pub value : Fits x read.value
+    pub place : next ≡ read.place
+    pub rest : drop next text ≡ read.rest
 
 abbrev pub FitsRead : {X Y : Type 0} → (X → Y → Type 0) → List ℕ → X → ℕ → Result (Read Y) Fault → Type 0
 FitsRead Fits text x next (Ok read) = Fitting Fits text x next read
 FitsRead Fits text x next (Err fault) = ⊥
 
 -- what a reader of part of a text answers is what reading gives, unless memory ran out
-abbrev pub Gives : {X Y : Type 0} → (X → Y → Type 0) → List ℕ → Result (X × ℕ) PatternRefusal → Result (Read Y) Fault → Type 0
+abbrev pub Gives : {X Y : Type 0} → (X → Y → Type 0) → List ℕ → Result (X × ℕ) PatternRefusal → Result (Read Y) Fault
+    → Type 0
 Gives Fits text (Ok found) read = FitsRead Fits text found.0 found.1 read
 Gives Fits text (Err refusal) read = Fails refusal read
 

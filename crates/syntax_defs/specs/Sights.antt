@@ -1,16 +1,20 @@
 -- What stands at a place of a pattern text, by the characters from there on. The forms are those of Oniguruma's RE
 -- with Ruby syntax.
-use Rattle.std.specs.Prelude.{ℕ, ◌+◌, ◌-◌, ◌*◌, ◌==◌, min, List, [], ◌∷◌, length, drop, take, fold, Bool, true, false, ◌&&◌, ◌||◌, not, if◌then◌else◌, Option, Some, None}
+use Rattle.std.specs.Prelude.{ℕ, ◌+◌, ◌-◌, ◌*◌, ◌==◌, min, List, [], ◌∷◌, length, drop, take, fold, Bool, true, false}
+use Rattle.std.specs.Prelude.{◌&&◌, ◌||◌, not, if◌then◌else◌, Option, Some, None}
 use Rattle.std.specs.List.{prefix_len}
 use Rattle.std.specs.Char.{is_ascii_alphabetic, is_ascii_digit}
 use Rattle.pattern_defs.specs.declared.nodes.Anchor.{Anchor}
-use Rattle.pattern_defs.specs.declared.nodes.Anchor.TheVariants.{LineStart, LineEnd, First, Mark, LastEnd, WordEdge, NoWordEdge}
+use Rattle.pattern_defs.specs.declared.nodes.Anchor.TheVariants.{LineStart, LineEnd, First, Mark, LastEnd, WordEdge}
+use Rattle.pattern_defs.specs.declared.nodes.Anchor.TheVariants.{NoWordEdge}
 use Rattle.pattern_defs.specs.declared.nodes.Anchor.TheVariants as anchors
+use Rattle.syntax_defs.specs.Limits.{greater_count}
 use Rattle.syntax_defs.specs.declared.items.Options.{Options}
 use Rattle.syntax_defs.specs.declared.items.Form.{Form}
 use Rattle.syntax_defs.specs.declared.items.Form.TheVariants.{Sign, Count, Interval}
 use Rattle.syntax_defs.specs.declared.items.Sight.{Sight}
-use Rattle.syntax_defs.specs.declared.items.Sight.TheVariants.{End, Bar, Close, Blank, Remark, Comment, Repeat, Open, Edge, Number, Reference, Single}
+use Rattle.syntax_defs.specs.declared.items.Sight.TheVariants.{End, Bar, Close, Blank, Remark, Comment, Repeat, Open}
+use Rattle.syntax_defs.specs.declared.items.Sight.TheVariants.{Edge, Number, Reference, Single}
 
 -- decimal numbers
 
@@ -26,7 +30,7 @@ behind_digits cs = drop (digit_count cs) cs
 
 -- a digit more behind a number; a million stands for each greater number
 abbrev pub with_digit : ℕ → ℕ → ℕ
-with_digit n c = min (n * 10 + (c - 48)) 1000000
+with_digit n c = min (n * 10 + (c - 48)) greater_count
 
 abbrev pub number_of : List ℕ → ℕ
 number_of cs = fold with_digit 0 cs

@@ -21,13 +21,15 @@ escaped_test fold (Set test) = test
 
 -- an escape as a test
 abbrev pub escaped_single : Bool → Result (Read Escaped) Fault → Result (Read (ℕ → Bool)) Fault
-escaped_single fold read = read >>= λ x. Ok (record { value = escaped_test fold x.value; place = x.place; rest = x.rest })
+escaped_single fold read = read >>= λ x. Ok
+    (record { value = escaped_test fold x.value; place = x.place; rest = x.rest })
 
 abbrev pub single_by : Start → Options → (depth place c : ℕ) → List ℕ → Result (Read (ℕ → Bool)) Fault
 single_by Dot options depth place c cs = Ok (record { value = is_dot options.dot_all; place = place + 1; rest = cs })
 single_by Slash options depth place c cs = escaped_single options.any_case (escape_at place (c ∷ cs))
 single_by Bracket options depth place c cs = class_at options.any_case depth place (c ∷ cs)
-single_by Itself options depth place c cs = Ok (record { value = is_char_folded options.any_case c; place = place + 1; rest = cs })
+single_by Itself options depth place c cs =
+    Ok (record { value = is_char_folded options.any_case c; place = place + 1; rest = cs })
 
 -- A single character or a set, inside so many groups.
 abbrev pub single_at : Options → (depth place : ℕ) → List ℕ → Result (Read (ℕ → Bool)) Fault

@@ -8,5 +8,7 @@ pub mod refusal;
 
 pub use class_part::ClassPart;
 pub use items::{Bounds, Form, GroupName, Head, Item, Options, Sight, Span, Target};
-pub use limits::{MOST_COUNT, MOST_LENGTH, MOST_LEVELS, MOST_PATTERN_CHARS, MOST_REPEATS};
+pub use limits::{
+    GREATER_COUNT, MOST_COUNT, MOST_LENGTH, MOST_LEVELS, MOST_PATTERN_CHARS, MOST_REPEATS,
+};
 pub use refusal::PatternRefusal;

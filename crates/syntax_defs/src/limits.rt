@@ -10,5 +10,8 @@ pub const MOST_REPEATS: u32 = 8;
 /// The greatest number of an interval.
 pub const MOST_COUNT: u32 = 100_000;
 
+/// What stands for each number of an interval that is greater.
+pub const GREATER_COUNT: u32 = 1_000_000;
+
 /// How far a lookbehind may see, in characters.
 pub const MOST_LENGTH: u32 = 16_777_216;

@@ -9,18 +9,18 @@ use thiserror::Error;
 #[derive(Debug, Drop, Error)]
 pub enum PatternRefusal {
     /// The item that begins here can't be read, or the text ends where something isn't closed.
-    #[error("syntax")]
+    #[error("Syntax")]
     Syntax { at: u64 },
     /// The item that begins here is of a form that is left out.
-    #[error("left out")]
+    #[error("LeftOut")]
     LeftOut { at: u64 },
     /// Groups and classes nest so deep, or so many repeats stand on one item.
-    #[error("too deep")]
+    #[error("TooDeep")]
     TooDeep { depth: u64 },
     /// The text has so many characters.
-    #[error("too long")]
+    #[error("TooLong")]
     TooLong { count: u64 },
-    #[error("memory")]
+    #[error("Memory")]
     Memory,
 }
 

@@ -3,7 +3,8 @@ use Rattle.std.proofs.lemmas.List.{drop-drop}
 use Rattle.std.proofs.lemmas.Result.{err_from_is_err_and}
 use Rattle.syntax_defs.specs.declared.class_part.ClassPart.TheVariants.{End, Close, And, Class, Member}
 use Rattle.syntax_defs.specs.Classes.{together, next_side, with_member}
-use Rattle.onig_class.proofs.ClassLemmas.{turn, fails_bind, member_of, placed_gives, complement_gives, no_levels, some_levels}
+use Rattle.onig_class.proofs.ClassLemmas.{turn, fails_bind, member_of, placed_gives, complement_gives, no_levels}
+use Rattle.onig_class.proofs.ClassLemmas.{some_levels}
 use Rattle.onig_class.proofs.class.+class.Goals as goal
 
 pub class_within-returns-then-levels-eq0-clause-value :
@@ -14,13 +15,16 @@ pub class_within-returns-in_err-set-clause-value :
     goal.class_within-returns-in_err-set-clause-value
 class_within-returns-in_err-set-clause-value t c =
     let p = err_from_is_err_and c.from_residual.result c.from_residual.ensures.1 in
-    let is = some_levels c.args.levels c.args.at c.opening-negated.result.1 c.args.fold c.opening-negated.result.0 c.args.text.now c.if-levels-eq0.false c.opening-negated.ensures.negated c.opening-negated.ensures.start in
+    let is = some_levels c.args.levels c.args.at c.opening-negated.result.1 c.args.fold c.opening-negated.result.0
+    c.args.text.now c.if-levels-eq0.false c.opening-negated.ensures.negated c.opening-negated.ensures.start in
     rw (p.1, p.2) (fails_bind _ _ _ _ c.in_err-set.ensures.value (sym is))
 
 pub class_within-returns-clause-value : goal.class_within-returns-clause-value
 class_within-returns-clause-value t c =
-    let is = some_levels c.args.levels c.args.at c.opening-negated.result.1 c.args.fold c.opening-negated.result.0 c.args.text.now c.if-levels-eq0.false c.opening-negated.ensures.negated c.opening-negated.ensures.start in
-    rw is (complement_gives _ _ _ _ _ _ _ c.in_ok-set.ensures.value c.complement_if.ensures c.placed.ensures.found c.placed.ensures.memory)
+    let is = some_levels c.args.levels c.args.at c.opening-negated.result.1 c.args.fold c.opening-negated.result.0
+    c.args.text.now c.if-levels-eq0.false c.opening-negated.ensures.negated c.opening-negated.ensures.start in
+    rw is (complement_gives _ _ _ _ _ _ _ c.in_ok-set.ensures.value c.complement_if.ensures c.placed.ensures.found
+    c.placed.ensures.memory)
 
 pub members-returns-in-End-clause-value : goal.members-returns-in-End-clause-value
 members-returns-in-End-clause-value t c =
@@ -29,21 +33,27 @@ members-returns-in-End-clause-value t c =
 
 pub members-returns-in-Close-clause-value : goal.members-returns-in-Close-clause-value
 members-returns-in-Close-clause-value t c =
-    let w = turn _ _ _ _ _ _ Close _ c.loop-sides.invariant.going c.loop-sides.invariant.within c.in-Close.ensures.value in
-    placed_gives _ (together w.q) _ _ _ _ _ (c.together.ensures w.q w.fits) c.placed.ensures.found c.placed.ensures.memory (sym (drop-drop 1 c.loop-sides.at c.args.text.now)) (sym w.same)
+    let w = turn _ _ _ _ _ _ Close _ c.loop-sides.invariant.going c.loop-sides.invariant.within
+    c.in-Close.ensures.value in
+    placed_gives _ (together w.q) _ _ _ _ _ (c.together.ensures w.q w.fits) c.placed.ensures.found
+    c.placed.ensures.memory (sym (drop-drop 1 c.loop-sides.at c.args.text.now)) (sym w.same)
 
 pub members-returns-in_err-set-in-Class-clause-value :
     goal.members-returns-in_err-set-in-Class-clause-value
 members-returns-in_err-set-in-Class-clause-value t c =
-    let p = err_from_is_err_and c.from_residual-in_err-set-in-Class.result c.from_residual-in_err-set-in-Class.ensures.1 in
-    let w = turn _ _ _ _ _ _ Class _ c.loop-sides.invariant.going c.loop-sides.invariant.within c.in-Class.ensures.value in
+    let p = err_from_is_err_and c.from_residual-in_err-set-in-Class.result
+    c.from_residual-in_err-set-in-Class.ensures.1 in
+    let w = turn _ _ _ _ _ _ Class _ c.loop-sides.invariant.going c.loop-sides.invariant.within
+    c.in-Class.ensures.value in
     rw (p.1, p.2) (fails_bind _ _ _ _ c.in_err-set-in-Class.ensures.value w.same)
 
 pub members-returns-in_err-set-in-Member-clause-value :
     goal.members-returns-in_err-set-in-Member-clause-value
 members-returns-in_err-set-in-Member-clause-value t c =
-    let p = err_from_is_err_and c.from_residual-in_err-set-in-Member.result c.from_residual-in_err-set-in-Member.ensures.1 in
-    let w = turn _ _ _ _ _ _ Member _ c.loop-sides.invariant.going c.loop-sides.invariant.within c.in-Member.ensures.value in
+    let p = err_from_is_err_and c.from_residual-in_err-set-in-Member.result
+    c.from_residual-in_err-set-in-Member.ensures.1 in
+    let w = turn _ _ _ _ _ _ Member _ c.loop-sides.invariant.going c.loop-sides.invariant.within
+    c.in-Member.ensures.value in
     rw (p.1, p.2) (fails_bind _ _ _ _ c.in_err-set-in-Member.ensures.value w.same)
 
 pub members-loop-sides-preserved-in_ok-sides-in-And :
@@ -67,7 +77,8 @@ members-loop-sides-preserved-in_ok-sides-in-And t c =
 pub members-loop-sides-preserved-in_ok-sides-in-Class :
     goal.members-loop-sides-preserved-in_ok-sides-in-Class
 members-loop-sides-preserved-in_ok-sides-in-Class t c =
-    let w = turn _ _ _ _ _ _ Class _ c.loop-sides.invariant.going c.loop-sides.invariant.within c.in-Class.ensures.value in
+    let w = turn _ _ _ _ _ _ Class _ c.loop-sides.invariant.going c.loop-sides.invariant.within
+    c.in-Class.ensures.value in
     let m = member_of _ _ _ _ _ _ c.in_ok-set-in-Class.ensures.value w.same in
     let place = c.in_ok-set-in-Class.ensures.place in
     let begun : c.args.start ≤ c.loop-sides.at = c.loop-sides.invariant.begun in
@@ -85,7 +96,8 @@ members-loop-sides-preserved-in_ok-sides-in-Class t c =
 
 pub members-loop-sides-preserved : goal.members-loop-sides-preserved
 members-loop-sides-preserved t c =
-    let w = turn _ _ _ _ _ _ Member _ c.loop-sides.invariant.going c.loop-sides.invariant.within c.in-Member.ensures.value in
+    let w = turn _ _ _ _ _ _ Member _ c.loop-sides.invariant.going c.loop-sides.invariant.within
+    c.in-Member.ensures.value in
     let m = member_of _ _ _ _ _ _ c.in_ok-set-in-Member.ensures.value w.same in
     let place = c.in_ok-set-in-Member.ensures.place in
     let begun : c.args.start ≤ c.loop-sides.at = c.loop-sides.invariant.begun in

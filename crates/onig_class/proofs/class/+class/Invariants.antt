@@ -14,7 +14,8 @@ invariant-members-loop-sides l = record {
   begun : l.fn.start ≤ l.at;
   within : l.at ≤ length l.text;
   going : Going (class_within l.levels l.fold) l.fold l.text l.sides l.at l.first
-      (members_at (class_within l.levels l.fold) l.fold true (length (drop l.fn.from l.text)) no_members l.fn.start (drop l.fn.start l.text));
+      (members_at (class_within l.levels l.fold) l.fold true (length (drop l.fn.from l.text)) no_members l.fn.start
+      (drop l.fn.start l.text));
 }
 
 abbrev pub decreases-members-loop-sides : goal.decreases-members-loop-sides

@@ -4,4 +4,5 @@ use Rattle.onig_parse.proofs.lengths.lengths_of.Given as goal
 
 -- the lengths so far go on to the lengths of all
 abbrev pub invariant-loop-items : goal.invariant-loop-items
-invariant-loop-items l = lengths_from l.lengths.items (map (λ items. items.items) (drop l.items-index l.lists)) ≡ lengths_from [] (map (λ items. items.items) l.lists)
+invariant-loop-items l = lengths_from l.lengths.items (map (λ items. items.items) (drop l.items-index l.lists))
+    ≡ lengths_from [] (map (λ items. items.items) l.lists)

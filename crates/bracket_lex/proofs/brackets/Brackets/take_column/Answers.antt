@@ -1,4 +1,4 @@
-use Rattle.std.proofs.Common.{◌++◌, ◌∙◌, length, sym, ap, arith, length-drop}
+use Rattle.std.proofs.Common.{◌++◌, length, sym, ap, arith, length-drop}
 use Rattle.pairing_defs.specs.Marks.{every_column, bracket_at}
 use Rattle.bracket_lex.proofs.LongestText.{bracket_fits}
 use Rattle.bracket_lex.proofs.LineWalk.{no_mark, one_mark}

@@ -5,7 +5,8 @@ use Rattle.onig_match.proofs.area.Area.front.Given as goal
 
 abbrev pub invariant-loop-rest : goal.invariant-loop-rest
 invariant-loop-rest l = record {
-  todo : todo_of l.on.pattern.now.lists l.self.cells.items l.rest ≡ todo_of l.on.pattern.now.lists l.self.cells.items l.initial.rest;
+  todo : todo_of l.on.pattern.now.lists l.self.cells.items l.rest
+      ≡ todo_of l.on.pattern.now.lists l.self.cells.items l.initial.rest;
   inside : IsRest l.on.pattern.now (length l.self.cells.items) l.rest;
 }
 

@@ -5,7 +5,8 @@ use Rattle.onig_match.proofs.area.Area.rewind.Given as goal
 
 abbrev pub invariant-loop-self : goal.invariant-loop-self
 invariant-loop-self l = record {
-  captures : captures_at l.trail l.self.trail.items l.self.captures.items ≡ captures_at l.trail l.initial.self.trail.items l.initial.self.captures.items;
+  captures : captures_at l.trail l.self.trail.items l.self.captures.items
+      ≡ captures_at l.trail l.initial.self.trail.items l.initial.self.captures.items;
   kept : kept l.trail l.self.trail.items ≡ kept l.trail l.initial.self.trail.items;
   changes : AreChanges l.on.pattern.now (length l.on.text.now) l.self.trail.items;
   groups : length l.self.captures.items ≡ l.on.pattern.now.groups + 1;

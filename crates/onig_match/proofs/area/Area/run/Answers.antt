@@ -7,7 +7,8 @@ use Rattle.onig_match.proofs.area.Area.run.Goals as goal
 pub loop-step-init : goal.loop-step-init
 loop-step-init c =
     record {
-      ends = rw (← c.top.ensures.top) (begins c.args.on.now c.args.self.now c.args.at c.args.budget c.start_of.result c.top.result c.start_of.ensures c.requires.empty);
+      ends = rw (← c.top.ensures.top) (begins c.args.on.now c.args.self.now c.args.at c.args.budget c.start_of.result
+          c.top.result c.start_of.ensures c.requires.empty);
       sound = c.requires.sound;
       step = rw c.start_of.ensures (record { list = c.top.ensures.is_there; next = omega arith }, c.requires.at);
       room = c.requires.room;
@@ -16,45 +17,61 @@ loop-step-init c =
 
 pub returns-then-left-eq0-clause-end : goal.returns-then-left-eq0-clause-end
 returns-then-left-eq0-clause-end c =
-    rw (spent c.args.on.now c.loop-step.self c.loop-step.step c.in-Go.point c.loop-step.left _ c.in-Go.is c.if-left-eq0.true c.loop-step.invariant.ends) refl
+    rw (spent c.args.on.now c.loop-step.self c.loop-step.step c.in-Go.point c.loop-step.left _ c.in-Go.is
+    c.if-left-eq0.true c.loop-step.invariant.ends) refl
 
 pub returns-then-left-eq0-clause-captures : goal.returns-then-left-eq0-clause-captures
 returns-then-left-eq0-clause-captures c =
-    rw (spent c.args.on.now c.loop-step.self c.loop-step.step c.in-Go.point c.loop-step.left _ c.in-Go.is c.if-left-eq0.true c.loop-step.invariant.ends) refl
+    rw (spent c.args.on.now c.loop-step.self c.loop-step.step c.in-Go.point c.loop-step.left _ c.in-Go.is
+    c.if-left-eq0.true c.loop-step.invariant.ends) refl
 
 pub loop-step-smaller-else-left-eq0 : goal.loop-step-smaller-else-left-eq0
 loop-step-smaller-else-left-eq0 c =
-    (after_visit c.args.on.now c.args.self.now c.loop-step.self c.visit-step.new.self c.loop-step.step c.visit-step.result c.in-Go.point c.loop-step.left _
-    c.in-Go.is c.if-left-eq0.false c.loop-step.invariant.ends c.loop-step.invariant.room c.loop-step.invariant.rooms c.visit-step.ensures).falls
+    (after_visit c.args.on.now c.args.self.now c.loop-step.self c.visit-step.new.self c.loop-step.step
+    c.visit-step.result c.in-Go.point c.loop-step.left _
+    c.in-Go.is c.if-left-eq0.false c.loop-step.invariant.ends c.loop-step.invariant.room c.loop-step.invariant.rooms
+    c.visit-step.ensures).falls
 
 pub loop-step-preserved-else-left-eq0 : goal.loop-step-preserved-else-left-eq0
 loop-step-preserved-else-left-eq0 c =
-    let turn = after_visit c.args.on.now c.args.self.now c.loop-step.self c.visit-step.new.self c.loop-step.step c.visit-step.result c.in-Go.point c.loop-step.left _
-    c.in-Go.is c.if-left-eq0.false c.loop-step.invariant.ends c.loop-step.invariant.room c.loop-step.invariant.rooms c.visit-step.ensures in
+    let turn = after_visit c.args.on.now c.args.self.now c.loop-step.self c.visit-step.new.self c.loop-step.step
+    c.visit-step.result c.in-Go.point c.loop-step.left _
+    c.in-Go.is c.if-left-eq0.false c.loop-step.invariant.ends c.loop-step.invariant.room c.loop-step.invariant.rooms
+    c.visit-step.ensures in
     record { ends = turn.ends; sound = turn.sound; step = turn.step; room = turn.room; rooms = turn.rooms }
 
 pub loop-step-smaller-in-Some : goal.loop-step-smaller-in-Some
 loop-step-smaller-in-Some c =
-    (after_pop c.args.on.now c.args.self.now c.loop-step.self c.after_hit.new.self c.pop.new.self c.in-Some.entry c.loop-step.step c.after_hit.result
-    (λ (a : Area) l. Hit c.in-Found.end a.captures.items l) c.loop-step.left _ (c.in-Some.ensures).0 (c.in-Some.ensures).1
-    (λ l. rw c.in-Found.is refl) (rw c.in-Found.is refl) c.loop-step.invariant.ends c.loop-step.invariant.room c.loop-step.invariant.rooms c.after_hit.ensures).falls
+    (after_pop c.args.on.now c.args.self.now c.loop-step.self c.after_hit.new.self c.pop.new.self c.in-Some.entry
+    c.loop-step.step c.after_hit.result
+    (λ (a : Area) l. Hit c.in-Found.end a.captures.items l) c.loop-step.left _ (c.in-Some.ensures).0
+    (c.in-Some.ensures).1
+    (λ l. rw c.in-Found.is refl) (rw c.in-Found.is refl) c.loop-step.invariant.ends c.loop-step.invariant.room
+    c.loop-step.invariant.rooms c.after_hit.ensures).falls
 
 pub loop-step-preserved-in-Some : goal.loop-step-preserved-in-Some
 loop-step-preserved-in-Some c =
-    let turn = after_pop c.args.on.now c.args.self.now c.loop-step.self c.after_hit.new.self c.pop.new.self c.in-Some.entry c.loop-step.step c.after_hit.result
-    (λ (a : Area) l. Hit c.in-Found.end a.captures.items l) c.loop-step.left _ (c.in-Some.ensures).0 (c.in-Some.ensures).1
-    (λ l. rw c.in-Found.is refl) (rw c.in-Found.is refl) c.loop-step.invariant.ends c.loop-step.invariant.room c.loop-step.invariant.rooms c.after_hit.ensures in
+    let turn = after_pop c.args.on.now c.args.self.now c.loop-step.self c.after_hit.new.self c.pop.new.self
+    c.in-Some.entry c.loop-step.step c.after_hit.result
+    (λ (a : Area) l. Hit c.in-Found.end a.captures.items l) c.loop-step.left _ (c.in-Some.ensures).0
+    (c.in-Some.ensures).1
+    (λ l. rw c.in-Found.is refl) (rw c.in-Found.is refl) c.loop-step.invariant.ends c.loop-step.invariant.room
+    c.loop-step.invariant.rooms c.after_hit.ensures in
     record { ends = turn.ends; sound = turn.sound; step = turn.step; room = turn.room; rooms = turn.rooms }
 
 pub loop-step-smaller : goal.loop-step-smaller
 loop-step-smaller c =
-    (after_pop c.args.on.now c.args.self.now c.loop-step.self c.after_miss.new.self c.pop-in-Failed.new.self c.in-Some-pop.entry c.loop-step.step c.after_miss.result
+    (after_pop c.args.on.now c.args.self.now c.loop-step.self c.after_miss.new.self c.pop-in-Failed.new.self
+    c.in-Some-pop.entry c.loop-step.step c.after_miss.result
     (λ (a : Area) l. Miss l) c.loop-step.left _ (c.in-Some-pop.ensures).0 (c.in-Some-pop.ensures).1
-    (λ l. rw c.in-Failed.is refl) (rw c.in-Failed.is refl) c.loop-step.invariant.ends c.loop-step.invariant.room c.loop-step.invariant.rooms c.after_miss.ensures).falls
+    (λ l. rw c.in-Failed.is refl) (rw c.in-Failed.is refl) c.loop-step.invariant.ends c.loop-step.invariant.room
+    c.loop-step.invariant.rooms c.after_miss.ensures).falls
 
 pub loop-step-preserved : goal.loop-step-preserved
 loop-step-preserved c =
-    let turn = after_pop c.args.on.now c.args.self.now c.loop-step.self c.after_miss.new.self c.pop-in-Failed.new.self c.in-Some-pop.entry c.loop-step.step c.after_miss.result
+    let turn = after_pop c.args.on.now c.args.self.now c.loop-step.self c.after_miss.new.self c.pop-in-Failed.new.self
+    c.in-Some-pop.entry c.loop-step.step c.after_miss.result
     (λ (a : Area) l. Miss l) c.loop-step.left _ (c.in-Some-pop.ensures).0 (c.in-Some-pop.ensures).1
-    (λ l. rw c.in-Failed.is refl) (rw c.in-Failed.is refl) c.loop-step.invariant.ends c.loop-step.invariant.room c.loop-step.invariant.rooms c.after_miss.ensures in
+    (λ l. rw c.in-Failed.is refl) (rw c.in-Failed.is refl) c.loop-step.invariant.ends c.loop-step.invariant.room
+    c.loop-step.invariant.rooms c.after_miss.ensures in
     record { ends = turn.ends; sound = turn.sound; step = turn.step; room = turn.room; rooms = turn.rooms }

@@ -7,7 +7,9 @@ use Rattle.onig_match.proofs.area.Area.run.Given as goal
 
 abbrev pub invariant-loop-step : goal.invariant-loop-step
 invariant-loop-step l = record {
-  ends : means (subject l.on) l.self l.step l.left ≡ goes (subject l.on) (before l.on.pattern.now.lists l.on.pattern.now.top []) l.at l.initial.self.captures.items l.budget;
+  ends : means (subject l.on) l.self l.step l.left
+      ≡ goes (subject l.on) (before l.on.pattern.now.lists l.on.pattern.now.top []) l.at l.initial.self.captures.items
+      l.budget;
   sound : IsSound l.on l.self;
   step : IsStep l.on (length l.self.cells.items) l.step;
   room : HasRoom l.self l.left;

@@ -8,9 +8,12 @@ use Rattle.onig_match.proofs.area.Area.visit.Goals as goal
 
 pub visit_node-requires-clause-names : goal.visit_node-requires-clause-names
 visit_node-requires-clause-names c =
-    let there : slice_get (nodes_of c.args.on.now.pattern.now.lists c.in-AtNode.rest.list) c.in-AtNode.rest.index ≡ Some c.index-nodes-rest.result =
-    node_there c.args.on.now.pattern.now.lists c.list-nodes.result.now c.in-AtNode.rest c.index-nodes-rest.result c.list-nodes.ensures.nodes (c.in-AtNode.ensures).sound.1 c.index-nodes-rest.is in
-    AreNodes-get (length c.args.on.now.pattern.now.lists) c.args.on.now.pattern.now.groups c.list-nodes.result.now c.in-AtNode.rest.index c.index-nodes-rest.result c.list-nodes.ensures.names
+    let there : slice_get (nodes_of c.args.on.now.pattern.now.lists c.in-AtNode.rest.list) c.in-AtNode.rest.index
+    ≡ Some c.index-nodes-rest.result =
+    node_there c.args.on.now.pattern.now.lists c.list-nodes.result.now c.in-AtNode.rest c.index-nodes-rest.result
+    c.list-nodes.ensures.nodes (c.in-AtNode.ensures).sound.1 c.index-nodes-rest.is in
+    AreNodes-get (length c.args.on.now.pattern.now.lists) c.args.on.now.pattern.now.groups c.list-nodes.result.now
+    c.in-AtNode.rest.index c.index-nodes-rest.result c.list-nodes.ensures.names
     (rw c.list-nodes.ensures.nodes there)
 
 pub returns-in-AtEnd : goal.returns-in-AtEnd
@@ -18,19 +21,25 @@ returns-in-AtEnd c = lead_end c.args.on.now c.args.self.now c.args.point c.requi
 
 pub returns-in-AtNode : goal.returns-in-AtNode
 returns-in-AtNode c =
-    let there : slice_get (nodes_of c.args.on.now.pattern.now.lists c.in-AtNode.rest.list) c.in-AtNode.rest.index ≡ Some c.index-nodes-rest.result =
-    node_there c.args.on.now.pattern.now.lists c.list-nodes.result.now c.in-AtNode.rest c.index-nodes-rest.result c.list-nodes.ensures.nodes (c.in-AtNode.ensures).sound.1 c.index-nodes-rest.is in
-    lead_visit c.args.on.now c.args.self.now c.visit_node.new.self c.args.point (Node c.index-nodes-rest.result) (behind_node c.in-AtNode.rest) c.visit_node.result
-    (sym (c.in-AtNode.ensures).todo ∙ node_todo c.args.on.now.pattern.now.lists c.args.self.now.cells.items c.in-AtNode.rest c.index-nodes-rest.result there)
+    let there : slice_get (nodes_of c.args.on.now.pattern.now.lists c.in-AtNode.rest.list) c.in-AtNode.rest.index
+    ≡ Some c.index-nodes-rest.result =
+    node_there c.args.on.now.pattern.now.lists c.list-nodes.result.now c.in-AtNode.rest c.index-nodes-rest.result
+    c.list-nodes.ensures.nodes (c.in-AtNode.ensures).sound.1 c.index-nodes-rest.is in
+    lead_visit c.args.on.now c.args.self.now c.visit_node.new.self c.args.point (Node c.index-nodes-rest.result)
+    (behind_node c.in-AtNode.rest) c.visit_node.result
+    (sym (c.in-AtNode.ensures).todo ∙ node_todo c.args.on.now.pattern.now.lists c.args.self.now.cells.items
+    c.in-AtNode.rest c.index-nodes-rest.result there)
     c.visit_node.ensures
 
 pub returns-in-AtGroupEnd : goal.returns-in-AtGroupEnd
 returns-in-AtGroupEnd c =
-    lead_visit c.args.on.now c.args.self.now c.visit_group_end.new.self c.args.point (Close c.in-AtGroupEnd.group c.in-AtGroupEnd.from) c.in-AtGroupEnd.rest c.visit_group_end.result
+    lead_visit c.args.on.now c.args.self.now c.visit_group_end.new.self c.args.point
+    (Close c.in-AtGroupEnd.group c.in-AtGroupEnd.from) c.in-AtGroupEnd.rest c.visit_group_end.result
     (sym (c.in-AtGroupEnd.ensures).todo) c.visit_group_end.ensures
 
 pub returns-in-AtIteration : goal.returns-in-AtIteration
 returns-in-AtIteration c =
     lead_visit c.args.on.now c.args.self.now c.repeat.new.self c.args.point
-    (Again c.in-AtIteration.repeat.body c.in-AtIteration.repeat.least c.in-AtIteration.repeat.most c.in-AtIteration.repeat.greedy c.in-AtIteration.count c.in-AtIteration.begun)
+    (Again c.in-AtIteration.repeat.body c.in-AtIteration.repeat.least c.in-AtIteration.repeat.most
+    c.in-AtIteration.repeat.greedy c.in-AtIteration.count c.in-AtIteration.begun)
     c.in-AtIteration.rest c.repeat.result (sym (c.in-AtIteration.ensures).todo) c.repeat.ensures

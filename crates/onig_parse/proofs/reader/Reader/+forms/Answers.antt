@@ -18,12 +18,14 @@ body-returns-in_err-step t c =
 
 pub body-returns-then-not-branch : goal.body-returns-then-not-branch
 body-returns-then-not-branch t c =
-    sym c.loop-left.invariant.rest ∙ steps-end _ _ _ _ _ _ _ _ (omega arith) (rw c.if-not-branch.true at c.in_ok-step.ensures)
+    sym c.loop-left.invariant.rest ∙ steps-end _ _ _ _ _ _ _ _ (omega arith)
+    (rw c.if-not-branch.true at c.in_ok-step.ensures)
 
 pub body-loop-left-preserved : goal.body-loop-left-preserved
 body-loop-left-preserved t c = record {
   some = c.loop-left.invariant.some;
-  rest = sym (steps-more _ _ _ _ _ _ _ _ (omega arith) (rw c.if-not-branch.false at c.in_ok-step.ensures)) ∙ c.loop-left.invariant.rest;
+  rest = sym (steps-more _ _ _ _ _ _ _ _ (omega arith) (rw c.if-not-branch.false at c.in_ok-step.ensures))
+      ∙ c.loop-left.invariant.rest;
 }
 
 pub body-returns : goal.body-returns

@@ -18,7 +18,8 @@ decreases-take_group l = 4 * l.levels + 2
 abbrev pub invariant-body-loop-left : goal.invariant-body-loop-left
 invariant-body-loop-left l = record {
   some : 0 < l.levels;
-  rest : steps (body_at (l.levels - 1)) l.left (l.levels - 1) l.options l.body l.self ≡ body_at l.levels l.options l.fn.self;
+  rest : steps (body_at (l.levels - 1)) l.left (l.levels - 1) l.options l.body l.self
+      ≡ body_at l.levels l.options l.fn.self;
 }
 
 abbrev pub decreases-body-loop-left : goal.decreases-body-loop-left

@@ -11,6 +11,8 @@ invariant_of-result c =
       below = ap (λ (q : Pushed). q.below) made ∙ c.in_ok-below.ensures;
       name = ap (λ (q : Pushed). q.name) made ∙ c.in_ok-name.ensures;
       len = ap (λ (q : Pushed). q.len) made ∙ ap (λ n. n + c.min-added.result) c.len-3.ensures.count;
-      kind = ap (λ (q : Pushed). q.kind) made ∙ kind_is _ _ _ _ _ c.kind_with-kind.ensures c.std_type.ensures c.front-names.ensures;
-      number = ap (λ (q : Pushed). q.number) made ∙ number_is _ _ _ _ _ c.number_with-number.ensures c.number.ensures c.front-names.ensures;
+      kind = ap (λ (q : Pushed). q.kind) made ∙ kind_is _ _ _ _ _ c.kind_with-kind.ensures c.std_type.ensures
+          c.front-names.ensures;
+      number = ap (λ (q : Pushed). q.number) made
+          ∙ number_is _ _ _ _ _ c.number_with-number.ensures c.number.ensures c.front-names.ensures;
     }) (omega arith) (omega (arith, c.len-2.ensures)) (omega (arith, c.len.ensures.few))

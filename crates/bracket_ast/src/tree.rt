@@ -1,0 +1,7 @@
+use crate::node::Node;
+
+/// A tree of brackets. There is no root where there is nothing.
+#[derive(Drop)]
+pub struct Tree {
+    pub root: Option<Node>,
+}

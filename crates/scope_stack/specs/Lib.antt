@@ -1,0 +1,4 @@
+pub mod EndTexts
+pub mod Falls
+pub mod Levels
+pub mod Numbers

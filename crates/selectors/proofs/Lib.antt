@@ -1,0 +1,5 @@
+pub mod Alike
+pub mod FirstFaults
+pub mod FoundBack
+pub mod KeptEntries
+pub mod Passing

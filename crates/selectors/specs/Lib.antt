@@ -1,0 +1,7 @@
+pub mod Machine
+pub mod Meanings
+pub mod Piles
+pub mod RefusalLaws
+pub mod Refused
+pub mod Truths
+pub mod Verdicts

@@ -1,0 +1,6 @@
+pub mod Items
+pub mod Reuse
+pub mod Rows
+pub mod Shape
+pub mod Tree
+pub mod TreeCode
