@@ -1,5 +1,5 @@
 use crate::fields::{plain, plain_text};
-use onig_parse::read_pattern;
+use onig_parse::{PatternReader, read_pattern};
 use onig_scan::Scanner;
 use pattern_tree::Pattern;
 use std::alloc::{AllocError, Global};
@@ -78,12 +78,13 @@ impl Given {
         Ok(numbers)
     }
 
-    /// Reads all patterns anew, so often. The answer is how many were read.
+    /// Reads all patterns anew, so often, by one reader each time. The answer is how many were read.
     pub(crate) fn read_again(&self, alloc: Global, times: u64) -> u64 {
         let mut read = 0u64;
         for _ in 0..times {
+            let mut reader = PatternReader::new(alloc);
             for text in &self.texts {
-                if read_pattern(alloc, text.as_str()).is_ok() {
+                if reader.read(text.as_str()).is_ok() {
                     read = read.saturating_add(1);
                 }
             }
