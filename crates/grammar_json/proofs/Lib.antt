@@ -1,0 +1,4 @@
+pub mod FaultLemmas
+pub mod MemberLemmas
+pub mod CountLemmas
+pub mod ReadingLemmas

@@ -1,0 +1,6 @@
+pub mod FileFalls
+pub mod FileViews
+pub mod Faults
+pub mod GrammarViews
+pub mod Members
+pub mod NamedViews

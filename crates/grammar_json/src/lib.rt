@@ -1,0 +1,18 @@
+//! Grammar files and bracket files, read from JSON.
+#![tactic(auto)]
+
+mod capture_key;
+mod count;
+pub mod fault;
+pub mod file_rules;
+pub mod grammar;
+mod json;
+pub mod loosening;
+pub mod named;
+pub mod rules;
+pub mod texts;
+
+pub use file_rules::{Capture, Captures, Entries, Entry, RawRule};
+pub use grammar::{Grammar, GrammarRefusal, read_grammar};
+pub use loosening::loosen;
+pub use named::{NamedRule, NamedRules};
