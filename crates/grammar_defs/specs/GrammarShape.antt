@@ -8,6 +8,7 @@ use Rattle.serde_json.specs.Read.{read}
 use Rattle.text_defs.specs.Text.{is_utf8}
 use Rattle.grammar_defs.specs.FileRules.{FileList, absent, nothing, include, rule, capture, FileRule, NamedRule}
 use Rattle.grammar_defs.specs.FileRules.{Grammar}
+use Rattle.grammar_defs.specs.declared.limits.TheConstants.{MOST_RULES}
 use Rattle.grammar_defs.specs.Loosening.{loosened}
 use Rattle.grammar_defs.specs.Pointers.{Pointer, itself, all_below}
 use Rattle.grammar_defs.specs.RuleShape.{members_of, filled_at, rule_in, patterns_in}
@@ -102,7 +103,7 @@ abbrev pub rule_count : Grammar → ℕ
 rule_count g = 1 + rules_of_list g.patterns + rules_of_named g.repository + rules_of_named g.injections
 
 abbrev pub most_rules : ℕ
-most_rules = 65536
+most_rules = MOST_RULES
 
 -- the JSON value of bytes
 abbrev pub json_of : List ℕ → Option Data

@@ -1,6 +1,8 @@
-//! What a grammar file and a bracket file say: definitions, and where a byte of such a file stands.
+//! What a grammar file says: definitions, the limit that they cite, and where a byte of such a file stands.
 #![tactic(auto)]
 
+pub mod limits;
 pub mod stand;
 
+pub use limits::MOST_RULES;
 pub use stand::Stand;

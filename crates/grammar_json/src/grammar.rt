@@ -12,6 +12,7 @@ use crate::file_rules::Entries;
 use crate::json::read_json;
 use crate::named::{NamedRules, named_at};
 use crate::rules::patterns_at;
+use grammar_defs::MOST_RULES;
 use serde_json::Value;
 use std::alloc::Global;
 use text_pos::{Bytes, Name};
@@ -36,15 +37,12 @@ pub enum GrammarRefusal {
     /// The JSON pointer (RFC 6901) of the first value of a wrong kind.
     #[error("Shape")]
     Shape { path: Bytes },
-    /// It has so many rules, more than 65,536.
+    /// It has so many rules, more than `MOST_RULES`.
     #[error("TooManyRules")]
     TooManyRules { count: u64 },
     #[error("Memory")]
     Memory,
 }
-
-/// A grammar has at most so many rules, its top among them.
-const MOST_RULES: u64 = 65_536;
 
 /// Reads a TextMate grammar from the bytes of its file: JSON, perhaps with comments and trailing commas.
 pub fn read_grammar(alloc: Global, bytes: &[u8]) -> Result<Grammar, GrammarRefusal>
