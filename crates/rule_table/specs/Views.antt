@@ -1,5 +1,6 @@
 -- How the rules of a table stand for the rules of a run.
 use Rattle.std.specs.Prelude.{ℕ, List, map, option_map}
+use Rattle.canonical_patterns.specs.Canonical.{canonical}
 use Rattle.rule_defs.specs.Rules.{Kind, Entry, Slot, Rule}
 use Rattle.rule_defs.specs.Rules.{Match as MatchRule, BeginEnd as BeginEndRule, BeginWhile as BeginWhileRule}
 use Rattle.rule_defs.specs.Rules.{Group as GroupRule, Never as NeverSlot, Read as ReadSlot, Later as LaterSlot}
@@ -17,9 +18,10 @@ kind_of BeginEnd = BeginEndRule
 kind_of BeginWhile = BeginWhileRule
 kind_of Group = GroupRule
 
+-- patterns that differ only in how their sets are kept are one and the same to a run
 abbrev pub slot_of : RuleSlot → Slot
 slot_of Never = NeverSlot
-slot_of (Read pattern) = ReadSlot pattern.value
+slot_of (Read pattern) = ReadSlot (canonical pattern.value)
 slot_of (Later text groups) = LaterSlot text groups
 
 abbrev pub entry_of : RuleCapture → Entry
