@@ -1,7 +1,7 @@
 //! Marks, their pairing by one stack, and rows: plain types, and the definitions of what they mean.
 #![tactic(auto)]
 
-use text_pos::{Chars, Kinds, Pos};
+use text_pos::{Chars, Items, Kinds, Name, Pos};
 
 /// How many colours brackets with a partner have, in turn by their levels. A bracket without partner has the one behind
 /// these.
@@ -13,6 +13,16 @@ pub enum Role {
     Opener(u32),
     Closer(Kinds),
 }
+
+/// Two texts that are brackets of each other, as a file names them.
+#[derive(Debug, Drop)]
+pub struct PairText {
+    pub opener: Name,
+    pub closer: Name,
+}
+
+/// Pairs of texts in the order of their file.
+pub type PairTexts = Items<PairText>;
 
 /// A text that is a bracket wherever it stands.
 #[derive(Debug, Drop)]
