@@ -33,7 +33,8 @@ module _ (chars : ℕ) where
   closed_to-are place [] out all is = record { out = is; locals = tt }
   closed_to-are place (local ∷ locals) out all is =
       by_end (nat_le local.end place)
-      (closed_to-are place locals (put out local.scopes local.end) all.1 (put-is chars out local.scopes local.end all.0 is))
+      (closed_to-are place locals (put out local.scopes local.end) all.1
+      (put-is chars out local.scopes local.end all.0 is))
     where
       by_end : (b : Bool) → AreTold chars (closed_to place locals (put out local.scopes local.end)) →
           AreTold chars (closed_where b out local locals (closed_to place locals))

@@ -33,7 +33,8 @@ with_top-built : (machine : Machine) (top other : Frame) (below : List Frame) �
 with_top-built machine top other [] same is = record { few = is.few; rooted = rw same is.rooted }
 with_top-built machine top other (frame ∷ below) same is = record { few = is.few; rooted = is.rooted }
 
-pub forgotten-built : (machine : Machine) (stack : Stack) → IsBuilt machine stack → IsBuilt machine (forgotten_all stack)
+pub forgotten-built : (machine : Machine) (stack : Stack) → IsBuilt machine stack →
+    IsBuilt machine (forgotten_all stack)
 forgotten-built machine stack is =
     record {
       few = omega (arith, length-map stack.below forgotten, is.few);

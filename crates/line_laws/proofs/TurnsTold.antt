@@ -120,7 +120,8 @@ module _ (run : Run) (chars : ℕ) (keeps : Keeps run chars) where
         by_place : (b : Bool) → IsTold chars (match_told run rule m state).out →
             TellsOn run chars (rest_where b run m (popped_where b (match_told run rule m state)))
         by_place true told =
-            rest-tells (record (match_told run rule m state) { stack = popped (match_told run rule m state).stack }) told
+            rest-tells (record (match_told run rule m state)
+            { stack = popped (match_told run rule m state).stack }) told
         by_place false told =
             goes_on-tells m (match_told run rule m state) there.ends (record { inside = is.inside; told = told })
 
@@ -130,10 +131,11 @@ module _ (run : Run) (chars : ℕ) (keeps : Keeps run chars) where
         rest_where-tells (is_here m state) m (record state { stack = popped state.stack }) there.ends
         (record { inside = is.inside; told = is.told })
     begun-tells false true number rule state is e =
-        rw e (rest-tells (record (with_settled run rule m state) { stack = popped (with_settled run rule m state).stack })
-        is.told)
+        rw e (rest-tells (record (with_settled run rule m state)
+        { stack = popped (with_settled run rule m state).stack }) is.told)
     begun-tells false false number rule state is e =
-        rw e (goes_on-tells m (with_settled run rule m state) there.ends (record { inside = is.inside; told = is.told }))
+        rw e (goes_on-tells m (with_settled run rule m state) there.ends
+        (record { inside = is.inside; told = is.told }))
 
     begin_found-tells : (number : ℕ) (rule : Rule) (state : State) → Tells run chars state →
         TellsOn run chars (begin_found run number rule m state)
