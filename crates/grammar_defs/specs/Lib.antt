@@ -1,8 +1,10 @@
 pub mod FileRules
 pub mod FileRulesCode
+pub mod BracketShape
 pub mod GrammarShape
 pub mod Loosening
 pub mod Pointers
 pub mod RuleFaults
 pub mod RuleShape
+pub mod BracketExamples
 pub mod Examples

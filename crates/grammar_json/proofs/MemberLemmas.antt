@@ -9,7 +9,7 @@ use Rattle.std.specs.Ordering.{match_ordering}
 use Rattle.serde_json.specs.Data.{Data, null, boolean, number, string, array, object, Members, no_members, member}
 use Rattle.serde_json.specs.Data.{depth, members_depth}
 use Rattle.serde_json.specs.Find.{get, get_member, as_object}
-use Rattle.grammar_defs.specs.FileRules.{FileList, absent}
+use Rattle.grammar_defs.specs.FileRules.{FileList, absent, nothing, include, placed}
 use Rattle.grammar_defs.specs.Pointers.{Pointer, all_below, itself}
 use Rattle.grammar_defs.specs.RuleShape.{number_after, capture_of, is_capture_key, members_of, list_of, patterns_in}
 use Rattle.grammar_defs.specs.RuleShape.{captures_in, captures_of}
@@ -17,9 +17,11 @@ use Rattle.grammar_defs.specs.RuleFaults.{texts_faults, finish_last_faults, rule
 use Rattle.grammar_defs.specs.RuleFaults.{list_faults, patterns_faults_at, captures_faults, captures_faults_at}
 use Rattle.grammar_json.specs.Faults.{IsFirst, Tells}
 use Rattle.grammar_json.specs.FileViews.{entry_then, entries_then, capture_then, captures_then, capture_if_there}
+use Rattle.grammar_json.specs.FileViews.{entry_list, capture_list, rule_of, joined}
 use Rattle.grammar_json.specs.Members.{Pushes, member_capture, member_faults, member_faults_of}
 use Rattle.grammar_json.specs.declared.fault.Fault.{Fault}
 use Rattle.grammar_json.specs.declared.file_rules.Entry.{Entry}
+use Rattle.grammar_json.specs.declared.file_rules.Entry.TheVariants.{Include, Rule}
 use Rattle.grammar_json.specs.declared.file_rules.Capture.{Capture}
 use Rattle.grammar_json.proofs.FaultLemmas.{IsFirst_append}
 
@@ -208,6 +210,18 @@ pub captures_then_more : (cs : List Capture) (c : Capture) (others : FileList) �
     ≡ captures_then cs (capture_then c others)
 captures_then_more [] c others = refl
 captures_then_more (x ∷ cs) c others = ap (capture_then x) (captures_then_more cs c others)
+
+-- the same, as lists that are joined
+pub entry_list_more : (es : List Entry) (e : Entry) → entry_list (es ++ e ∷ [])
+    ≡ joined (entry_list es) (entry_then e nothing)
+entry_list_more [] e = refl
+entry_list_more (Include name ∷ es) e = ap (include name) (entry_list_more es e)
+entry_list_more (Rule r ∷ es) e = ap (placed (rule_of r)) (entry_list_more es e)
+
+pub capture_list_more : (cs : List Capture) (c : Capture) → capture_list (cs ++ c ∷ [])
+    ≡ joined (capture_list cs) (capture_then c nothing)
+capture_list_more [] c = refl
+capture_list_more (x ∷ cs) c = ap (capture_then x) (capture_list_more cs c)
 
 -- a number is read exactly of a key of so many digits
 key_number : (b : Bool) (n m : ℕ) → Some n ≡ (if b then Some m else None) → (b ≡ true) × (n ≡ m)

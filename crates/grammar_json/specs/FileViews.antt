@@ -1,6 +1,6 @@
 -- How the types of a grammar stand for its rules.
 use Rattle.std.specs.Prelude.{ℕ, List, [], ◌∷◌, Option, Some, None}
-use Rattle.grammar_defs.specs.FileRules.{Texts, FileList, absent, nothing, include, capture, FileRule, placed}
+use Rattle.grammar_defs.specs.FileRules.{Texts, FileList, absent, nothing, include, rule, capture, FileRule, placed}
 use Rattle.grammar_defs.specs.GrammarShape.{rules_of_rule}
 use Rattle.grammar_json.specs.declared.file_rules.RawRule.{RawRule}
 use Rattle.grammar_json.specs.declared.file_rules.Entry.{Entry}
@@ -73,6 +73,16 @@ captures_then (c ∷ captures) others = capture_then c (captures_then captures o
 -- a list of captures
 abbrev pub capture_list : List Capture → FileList
 capture_list captures = captures_then captures nothing
+
+-- the members of one list, and behind them those of another
+abbrev pub joined : FileList → FileList → FileList
+joined absent more = more
+joined nothing more = more
+joined (include name others) more = include name (joined others more)
+joined (rule texts a b c d finish_last patterns others) more =
+    rule texts a b c d finish_last patterns (joined others more)
+joined (capture number name content patterns others) more =
+    capture number name content patterns (joined others more)
 
 -- a capture that may not be there
 abbrev pub capture_if_there : Option Capture → FileList → FileList

@@ -1,5 +1,5 @@
 ghost use Rattle.std.specs.Prelude.{◌≡◌, [], ◌∷◌, ◌++◌, OnOk, OnErr};
-ghost use Rattle.grammar_json.specs.FileViews.{entry_list, capture_list, if_there};
+ghost use Rattle.grammar_json.specs.FileViews.{entry_list, entry_then, capture_list, capture_then, if_there, joined};
 ghost use Rattle.grammar_defs.specs.FileRules.{nothing};
 ghost use Rattle.grammar_defs.specs.GrammarShape.{or_nothing};
 
@@ -97,6 +97,16 @@ impl Entries {
         }
     }
 
+    /// Adds a member at the end.
+    #[tactic(auto, using(crate::proofs::MemberLemmas::entry_list_more))]
+    pub fn push(&mut self, item: Entry) -> Result<(), AllocError>
+        ensures ok { OnOk result (self.new ≡ joined self.old (entry_then item nothing)) }
+        ensures err { OnErr result (self.new ≡ self.old) }
+    {
+        self.items.push(item)?;
+        Ok(())
+    }
+
     /// The list of these members.
     pub(crate) fn of_items(items: Vec<Entry>) -> Entries
         ensures { result ≡ entry_list items.items }
@@ -145,6 +155,16 @@ impl Captures {
         Captures {
             items: Vec::new(alloc),
         }
+    }
+
+    /// Adds a capture at the end.
+    #[tactic(auto, using(crate::proofs::MemberLemmas::capture_list_more))]
+    pub fn push(&mut self, item: Capture) -> Result<(), AllocError>
+        ensures ok { OnOk result (self.new ≡ joined self.old (capture_then item nothing)) }
+        ensures err { OnErr result (self.new ≡ self.old) }
+    {
+        self.items.push(item)?;
+        Ok(())
     }
 
     /// The list of these captures.

@@ -1,6 +1,7 @@
 //! Grammar files and bracket files, read from JSON.
 #![tactic(auto)]
 
+pub mod brackets;
 mod capture_key;
 mod count;
 pub mod fault;
@@ -12,7 +13,9 @@ pub mod named;
 pub mod rules;
 pub mod texts;
 
+pub use brackets::{PairRefusal, read_brackets};
 pub use file_rules::{Capture, Captures, Entries, Entry, RawRule};
 pub use grammar::{Grammar, GrammarRefusal, read_grammar};
 pub use loosening::loosen;
 pub use named::{NamedRule, NamedRules};
+pub use pairing_defs::{PairText, PairTexts};

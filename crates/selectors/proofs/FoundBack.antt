@@ -123,13 +123,13 @@ last_left names left default lt =
 
 -- one scope more, from the back
 
-left_cases : (names : List Name) (left : ℕ) (name scope : Name) (rest : Scopes) (b : Bool) → left < length names
-    → name ≡ get_or names left name → name_matches name scope ≡ b
+left_cases : (names : List Name) (left : ℕ) (scope : Name) (rest : Scopes) (b : Bool) → left < length names
+    → name_matches (get_or names left []) scope ≡ b
     → first_found (reverse (take (suc left) names)) (scope ∷ rest)
     ≡ cond b (first_found (reverse (take left names)) rest) (first_found (reverse (take (suc left) names)) rest)
-left_cases names left name scope rest b lt is matches =
-    let back : reverse (take (suc left) names) ≡ name ∷ reverse (take left names) =
-    last_left names left name lt ∙ ap (λ n. n ∷ reverse (take left names)) (sym is) in
+left_cases names left scope rest b lt matches =
+    let name = get_or names left [] in
+    let back : reverse (take (suc left) names) ≡ name ∷ reverse (take left names) = last_left names left [] lt in
     ap (λ xs. first_found xs (scope ∷ rest)) back
     ∙ (ap (λ x. cond x (first_found (reverse (take left names)) rest)
     (first_found (name ∷ reverse (take left names)) rest)) matches
@@ -138,13 +138,14 @@ left_cases names left name scope rest b lt is matches =
 one_less : (k : ℕ) → suc k - 1 ≡ k
 one_less k = omega arith
 
-pub one_more : (names : List Name) (left : ℕ) (name scope : Name) (rest : Scopes) (b : Bool) → left ≢ 0
-    → left ≤ length names → name ≡ get_or names (left - 1) name → name_matches name scope ≡ b
+pub one_more : (names : List Name) (left : ℕ) (scope : Name) (rest : Scopes) (b : Bool) → left ≢ 0
+    → left ≤ length names → name_matches (get_or names (left - 1) []) scope ≡ b
     → first_found (reverse (take left names)) (scope ∷ rest)
     ≡ cond b (first_found (reverse (take (left - 1) names)) rest) (first_found (reverse (take left names)) rest)
-one_more names zero name scope rest b some within is matches = absurd (some refl)
-one_more names (suc k) name scope rest b some within is matches =
-    left_cases names k name scope rest b (omega arith) (subst (λ n. name ≡ get_or names n name) (one_less k) is) matches
+one_more names zero scope rest b some within matches = absurd (some refl)
+one_more names (suc k) scope rest b some within matches =
+    left_cases names k scope rest b (omega arith)
+    (subst (λ n. name_matches (get_or names n []) scope ≡ b) (one_less k) matches)
     ∙ ap (λ n. cond b (first_found (reverse (take n names)) rest) (first_found (reverse (take (suc k) names)) rest))
     (sym (one_less k))
 

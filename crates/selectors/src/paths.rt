@@ -1,4 +1,4 @@
-ghost use Rattle.std.specs.Prelude.{◌≡◌};
+ghost use Rattle.std.specs.Prelude.{◌≡◌, ◌-◌, ◌<◌, ◌≤◌, [], length, get_or};
 ghost use Rattle.scope_defs.specs.Selectors.{name_matches, path_holds};
 
 use scope_names::Scopes;
@@ -17,6 +17,15 @@ fn name_matches(name: &[u8], scope: &[u8]) -> bool
     }
 }
 
+/// Whether the last of so many names of a path matches a scope.
+fn last_matches(names: &[Bytes], left: usize, scope: &str) -> bool
+    requires some { 0 < left }
+    requires there { left ≤ length names.now }
+    ensures { result ≡ name_matches (get_or names.now (left - 1) []) scope.now }
+{
+    name_matches(names[left - 1].as_slice(), scope.as_bytes())
+}
+
 /// Whether the names of a path match scopes in this order. The last name takes the last scope that it matches, and so on.
 pub(crate) fn path_holds(names: &[Bytes], scopes: &Scopes) -> bool
     ensures { result ≡ path_holds names.now scopes.now }
@@ -26,7 +35,7 @@ pub(crate) fn path_holds(names: &[Bytes], scopes: &Scopes) -> bool
         if left == 0 {
             return true;
         }
-        if name_matches(names[left - 1].as_slice(), scope.as_bytes()) {
+        if last_matches(names, left, scope) {
             left -= 1;
         }
     }

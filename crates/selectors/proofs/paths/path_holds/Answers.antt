@@ -1,7 +1,7 @@
 use Rattle.std.proofs.Common.{false, take, reverse, sym, ◌∙◌, ap, arith}
 use Rattle.std.proofs.Math.Seq.{take-length}
 use Rattle.scope_defs.specs.Scopes.{Scopes}
-use Rattle.selectors.proofs.FoundBack.{first_found, found_back, one_more, at_front, same_test}
+use Rattle.selectors.proofs.FoundBack.{first_found, found_back, one_more, at_front}
 use Rattle.selectors.proofs.paths.path_holds.Goals as goal
 
 pub loop-scope-init : goal.loop-scope-init
@@ -17,10 +17,9 @@ pub loop-scope-preserved : goal.loop-scope-preserved
 loop-scope-preserved c = record {
   within = c.loop-scope.invariant.within;
   found =
-      let matches = same_test _ _ _ _ _ false c.name_matches.ensures c.if-name_matches.false c.as_slice.ensures
-      c.as_bytes.ensures.value in
-      sym (one_more c.args.names.now c.loop-scope.left c.index-names-left.result c.in-Some.scope.now c.next.new.self
-      false c.if-left-eq0.false c.loop-scope.invariant.within c.index-names-left.is matches)
+      sym (one_more c.args.names.now c.loop-scope.left c.in-Some.scope.now c.next.new.self
+      false c.if-left-eq0.false c.loop-scope.invariant.within
+      (sym c.last_matches.ensures ∙ c.if-last_matches.false))
       ∙ (ap (λ (rest : Scopes). first_found (reverse (take c.loop-scope.left c.args.names.now)) rest)
       (sym c.in-Some.ensures.steps) ∙ c.loop-scope.invariant.found);
 }
