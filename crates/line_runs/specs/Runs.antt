@@ -1,7 +1,7 @@
 -- What an object that gives the tokens of lines tells of itself.
-use Rattle.std.specs.Prelude.{◌≡◌, ℕ, ◌+◌, ◌-◌, ◌^◌, List, [], ◌∷◌, min}
+use Rattle.std.specs.Prelude.{ℕ, ◌+◌, ◌-◌, ◌^◌, List, min}
 use Rattle.text_pos.specs.declared.limits.Limits.{Limits}
-use Rattle.scope_defs.specs.Frames.{Start, Token, bare}
+use Rattle.scope_defs.specs.Frames.{Start, bare}
 use Rattle.line_defs.specs.Line.{LineResult}
 
 -- the start, the most groups of a pattern, the limits, and the result of each line from each start
@@ -19,16 +19,6 @@ bare_result r = record r { end = bare r.end }
 pub data Fits (runs : Runs) : Start → Type 0 where
   first_line : Fits runs (bare runs.start)
   next_line : (start : Start) (line : List ℕ) → Fits runs start → Fits runs (bare (runs.line start line).end)
-
--- tokens follow one another from one column to another
-abbrev pub follow_from : ℕ → List Token → ℕ → Type 0
-follow_from from [] to = from ≡ to
-follow_from from (token ∷ tokens) to = (token.from ≡ from) × follow_from token.to tokens to
-
--- there is a token, and they follow one another from the front
-abbrev pub Follow : List Token → (length : ℕ) → Type 0
-Follow [] length = ⊥
-Follow (token ∷ tokens) length = follow_from 0 (token ∷ tokens) length
 
 -- a count after one more: it stays at the largest number of 64 bits
 abbrev pub risen : ℕ → ℕ

@@ -1,7 +1,8 @@
 ghost use Rattle.std.specs.Prelude.{◌≡◌, ℕ, ◌+◌, ◌≤◌, List, length, IfOk};
 ghost use Rattle.scope_defs.specs.Frames.{Start, bare};
 ghost use Rattle.line_defs.specs.Line.{LineResult};
-ghost use Rattle.line_runs.specs.Runs.{Runs, Fits, Follow, bare_result, risen};
+ghost use Rattle.line_defs.specs.Following.{Follow};
+ghost use Rattle.line_runs.specs.Runs.{Runs, Fits, bare_result, risen};
 
 use crate::line_tokens::LineTokens;
 use line_text::Line;
@@ -10,6 +11,7 @@ use scope_stack::State;
 use std::alloc::AllocError;
 use std::sync::ledger::Ledger;
 use step_count::Steps;
+use text_defs::MOST_CHARS;
 use text_pos::Limits;
 
 /// What gives the tokens of a line from a start.
@@ -42,6 +44,7 @@ pub trait LineRuns {
         line: &Line,
         steps: &mut Steps<L>,
     ) -> Result<LineTokens, AllocError>
+        requires short { length line.now ≤ MOST_CHARS }
         requires fits { Fits (told self.old) (bare start.now) }
         requires budget { work.old.budget ≡ (told self.old).limits.budget }
         requires room { work.old.room ≡ (told self.old).groups }
