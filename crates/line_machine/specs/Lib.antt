@@ -1,2 +1,4 @@
 pub mod Cut
+pub mod Grammars
+pub mod Machines
 pub mod Passes

@@ -4,6 +4,8 @@
 
 mod forgotten;
 pub mod line;
+pub mod machine;
 mod while_pass;
 
 pub use line::{ran_line, unrun_line};
+pub use machine::Machine;

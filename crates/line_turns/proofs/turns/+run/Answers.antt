@@ -79,7 +79,8 @@ begin_found-returns-clause-turned t c =
     let less : depth c.args.state.now.stack < 1000 =
     omega (arith, same, c.if-is_full.false, c.depth-is_full.ensures.count) in
     let content = content-told (run_of c.args.over.now c.args.levels) (matched_of c.args.m c.args.work.now.hit)
-    c.args.id.0 (rule_of c.args.rule.now) c.args.state.now c.push_begin.new.state c.tell_match.new.state c.in_ok-before.before
+    c.args.id.0 (rule_of c.args.rule.now) c.args.state.now c.push_begin.new.state c.tell_match.new.state
+    c.in_ok-before.before
     c.in_ok-scopes.scopes before c.in_ok-scopes.ensures pushed told in
     IfOk-weaker c.after_begin.result _ _
     (λ then e. e c.args.levels (rule_of c.args.rule.now) c.args.work.now.hit
