@@ -1,2 +1,11 @@
 pub mod Found
 pub mod Turns
+pub mod Told
+pub mod CapturesTold
+pub mod TurnsTold
+pub mod Stacks
+pub mod Passes
+pub mod Lines
+pub mod Agree
+pub mod TurnsAgree
+pub mod Ways

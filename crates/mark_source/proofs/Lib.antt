@@ -1,0 +1,4 @@
+pub mod Ahead
+pub mod Orders
+pub mod Places
+pub mod Spots
