@@ -1,0 +1,3 @@
+mod LocalLists
+mod Plain
+mod TakenLists
