@@ -214,24 +214,22 @@ impl Area {
         requires index { here.index + 1 < 2 ^ 64 }
         ensures { Visits on.now self.old (acted on.now self.old (Node node.now) (behind_node here) at) self.new result }
     {
-        match node {
-            PatNode::Repeat {
-                body,
-                least,
-                most,
-                greedy: true,
-            } => match only_char(on.pattern.list(*body)) {
-                Some(set) => {
-                    let bounds = Bounds {
-                        least: *least,
-                        most: *most,
-                    };
-                    self.visit_run(on, set, *body, bounds, after_node(here), at)
-                }
-                None => once(self.visit_node(on, node, here, at)),
-            },
-            _ => once(self.visit_node(on, node, here, at)),
+        if let PatNode::Repeat {
+            body,
+            least,
+            most,
+            greedy: true,
+        } = node
+        {
+            if let Some(set) = only_char(on.pattern.list(*body)) {
+                let bounds = Bounds {
+                    least: *least,
+                    most: *most,
+                };
+                return self.visit_run(on, set, *body, bounds, after_node(here), at);
+            }
         }
+        once(self.visit_node(on, node, here, at))
     }
 
     /// One look at what is still to match, and those that follow it in the same step.
