@@ -1,5 +1,6 @@
 pub mod Budgets
 pub mod Carries
+pub mod EarlyMisses
 pub mod Ends
 pub mod Flat
 pub mod Fronts

@@ -1,10 +1,16 @@
 -- What holds of the stack of an attempt at each step.
 use Rattle.std.specs.Prelude.{◌≡◌, ℕ, ◌+◌, ◌*◌, ◌^◌, ◌<◌, ◌≤◌, List, [], ◌∷◌, length, drop, filter, nat_le, Bool}
 use Rattle.std.specs.Prelude.{true, false, Option, Some, None, slice_get, slice_set}
+use Rattle.char_sets.specs.Ranges.{in_set}
+use Rattle.char_sets.specs.declared.char_set.CharRange.{CharRange}
+use Rattle.pattern_defs.specs.declared.nodes.ListId.{ListId}
 use Rattle.pattern_defs.specs.declared.nodes.Arm.{Arm}
+use Rattle.pattern_defs.specs.declared.nodes.PatNode.{PatNode}
+use Rattle.pattern_defs.specs.declared.nodes.PatNode.TheVariants.{One, Group}
 use Rattle.pattern_defs.specs.declared.outcomes.Place.{Place}
 use Rattle.pattern_defs.specs.Patterns.{NodeLists, Tree, nodes_of}
-use Rattle.pattern_defs.specs.Attempt.{Captures, Ran, Spent, is_char, is_greatest}
+use Rattle.pattern_defs.specs.Attempt.{Subject, Captures, Todo, Ran, Miss, Spent, before, is_char}
+use Rattle.pattern_defs.specs.Attempt.{is_greatest}
 use Rattle.onig_match.specs.declared.cells.Rest.{Rest}
 use Rattle.onig_match.specs.declared.cells.Cell.{Cell}
 use Rattle.onig_match.specs.declared.cells.Cell.TheVariants.{Nodes, GroupEnd, Iteration}
@@ -20,6 +26,7 @@ use Rattle.onig_match.specs.declared.entries.Step.TheVariants.{Go, Found, Failed
 use Rattle.onig_match.specs.declared.entries.Visited.{Visited}
 use Rattle.onig_match.specs.declared.area.Area.{Area}
 use Rattle.onig_match.specs.declared.searched.Searched.{Searched}
+use Rattle.onig_match.specs.Goes.{goes}
 use Rattle.onig_match.specs.Machine.{subject, means, carried, todo_of, rank}
 
 -- the rest of a list of the pattern, before one of the first cells
@@ -134,6 +141,26 @@ pub record IsRun (p : ℕ → Bool) (text : List ℕ) (at : ℕ) (most : Option 
   pub all : (k : ℕ) → k < taken → is_char p (slice_get text (at + k)) ≡ true
   pub may : (k : ℕ) → k < taken → is_greatest most k ≡ false
   pub ends : is_greatest most taken ≡ false → is_char p (slice_get text (at + taken)) ≡ false
+
+-- nodes that begin with a single character that doesn't stand at a place
+pub record BeginsElse (nodes : List PatNode) (text : List ℕ) (at : ℕ) : Type 0 where
+  pub set : List CharRange
+  pub more : List PatNode
+  pub is : nodes ≡ One set ∷ more
+  pub ends : is_char (in_set set) (slice_get text at) ≡ false
+
+-- nodes that begin with a group that has this body
+pub record BeginsInGroup (nodes : List PatNode) (body : ListId) : Type 0 where
+  pub number : ℕ
+  pub more : List PatNode
+  pub is : nodes ≡ Group number body ∷ more
+
+-- a list that misses at a place after so many visits, whatever is still to match behind it
+pub record MissesEarly (s : Subject) (list : ListId) (at visits : ℕ) : Type 0 where
+  pub misses : (rest : List Todo) (captures : Captures) (left : ℕ) →
+      goes s (before s.lists list rest) at captures (left + visits) ≡ Miss left
+  pub spent : (rest : List Todo) (captures : Captures) (left : ℕ) → left < visits →
+      goes s (before s.lists list rest) at captures left ≡ Spent
 
 -- at most a cell is added, which changes no end of the attempt
 pub record AddsCell (on : Searched) (old new : Area) : Type 0 where

@@ -41,6 +41,7 @@ mod area;
 mod backs;
 mod captures;
 mod cells;
+mod early;
 mod entries;
 pub mod laws;
 mod pile;
