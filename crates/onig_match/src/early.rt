@@ -1,4 +1,4 @@
-ghost use Rattle.std.specs.Prelude.{◌≡◌, ◌<◌, length, true, IfSome};
+ghost use Rattle.std.specs.Prelude.{◌≡◌, ◌<◌, ◌≤◌, length, true, IfSome};
 ghost use Rattle.onig_match.specs.Machine.{subject};
 ghost use Rattle.onig_match.specs.Sound.{BeginsElse, BeginsInGroup, MissesEarly};
 
@@ -29,7 +29,8 @@ fn group_first(nodes: &[PatNode]) -> Option<ListId>
 /// After how many visits a list misses at a place by its first character: one, or two where it begins with a group.
 pub(crate) fn early_miss(on: &Searched<'_>, list: ListId, at: u32) -> Option<u64>
     requires { list.0 < length on.now.pattern.now.lists }
-    ensures { IfSome result (MissesEarly (subject on.now) list at) }
+    ensures early { IfSome result (MissesEarly (subject on.now) list at) }
+    ensures few { IfSome result (λ visits. visits ≤ 2) }
 {
     let nodes = on.pattern.list(list);
     if begins_else(nodes, on.text, at) {

@@ -11,7 +11,7 @@ returns-in-Some c =
     (early_repeat c.args.on.now c.args.self.now c.args.repeat.body c.args.repeat.least c.args.repeat.most c.args.count
     c.args.begun c.args.rest c.args.at c.in-Some.more c.requires.here
     (not_stuck c.args.count c.args.begun c.args.at c.if-begun-at.true)
-    (c.if-is_open.ensures refl).0 (c.if-is_open.ensures refl).1 c.in-Some.ensures)
+    (c.if-is_open.ensures refl).0 (c.if-is_open.ensures refl).1 (c.in-Some.ensures).early)
 
 pub returns : goal.returns
 returns c =

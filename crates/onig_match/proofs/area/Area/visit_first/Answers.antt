@@ -22,7 +22,7 @@ returns-in-Some-early_miss c =
     c.in-Repeat-default-default-default-true.least c.in-Repeat-default-default-default-true.most
     (behind_node c.args.here) c.args.at c.in-Some-early_miss.more
     (here_behind c.args.on.now c.args.self.now c.args.here c.args.at c.requires.here)
-    (c.if-is_open.ensures refl).0 (c.if-is_open.ensures refl).1 c.in-Some-early_miss.ensures)
+    (c.if-is_open.ensures refl).0 (c.if-is_open.ensures refl).1 (c.in-Some-early_miss.ensures).early)
 
 pub returns-in-Some-early_miss-2 : goal.returns-in-Some-early_miss-2
 returns-in-Some-early_miss-2 c =
@@ -34,7 +34,7 @@ returns-in-Some-early_miss-2 c =
     )
     (early_ahead c.args.on.now c.args.self.now c.in-Ahead.body c.in-Ahead.wanted (behind_node c.args.here) c.args.at
     c.in-Some-early_miss-2.more (here_behind c.args.on.now c.args.self.now c.args.here c.args.at c.requires.here)
-    c.in-Some-early_miss-2.ensures)
+    (c.in-Some-early_miss-2.ensures).early)
 
 pub returns : goal.returns
 returns c =
