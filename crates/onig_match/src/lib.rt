@@ -33,7 +33,9 @@
 //!
 //! A greedy repeat of one single character is done in one step (`visit_run`): it takes all characters that it may, and
 //! their visits are charged at once, two for each and one for the look at which it ended. In the text `aab` the visits 1
-//! to 6 of `a*b` are one step, and leave one entry (`GiveBack`) that stands for the rest `b` at 1 and then at 0.
+//! to 6 of `a*b` are one step, and leave one entry (`GiveBack`) that stands for the rest `b` at 1 and then at 0. So are
+//! the visits of alternatives, of one iteration more and of a lookahead's body that miss by their first character
+//! (`early_miss`): they make no cell and no entry.
 #![tactic(auto)]
 
 mod anchors;
