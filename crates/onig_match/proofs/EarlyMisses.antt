@@ -66,7 +66,8 @@ early_on : (on : Searched) (old : Area) (first : Todo) (rest : Rest) (at more : 
     Visits on old (acted on old first rest at) old (record { step = step; more = more })
 early_on on old first rest at more step here is ends spends = record {
   leads = leads_wider on more old (λ left. acted on old first rest at (left + more)) old step
-      (lead_added on old old (λ left. acted on old first rest at (left + more)) step (AddsCell-none on old here.sound) is
+      (lead_added on old old (λ left. acted on old first rest at (left + more)) step
+      (AddsCell-none on old here.sound) is
       (λ left. ap (λ (ran : Ran). carried (subject on) old ran) (sym (ends left))));
   spent = λ left low. ap (λ (ran : Ran). carried (subject on) old ran) (spends left low)
       ∙ carry-spent (subject on) old.cells.items old.trail.items old.captures.items old.entries.items;

@@ -229,8 +229,8 @@ impl Area {
         }
     }
 
-    /// A visit of the first of what is still to match, where it is a node. A greedy repeat of a single character is done
-    /// in one step, and so is what is left out since its first character isn't there.
+    /// A visit of the first of what is still to match, where it is a node. A greedy repeat of a single character is
+    /// done in one step, and so is what is left out since its first character isn't there.
     fn visit_first(&mut self, on: &Searched<'_>, node: &PatNode, here: Rest, at: u32) -> Visited
         requires here { IsHere on.now self.old here at }
         requires node { slice_get (nodes_of on.now.pattern.now.lists here.list) here.index ≡ Some node.now }

@@ -27,4 +27,5 @@ idle_place trees words row at rows text flags budget low size are one few scalar
     row_of_rows trees words ROW_VISITS row rows low size are in
     let first : row * words + 0 ≡ row = rw one (omega arith) in
     let word : IsWord trees row 0 ROW_VISITS (slice_index rows row) = rw first at (is.is 0 (rw one (omega arith))) in
-    idle_word trees at text flags budget row (slice_index rows row) scalar here enough (omega (arith, few, one)) word zero
+    idle_word trees at text flags budget row (slice_index rows row) scalar here enough (omega (arith, few, one)) word
+    zero
