@@ -1,5 +1,6 @@
 pub mod Captures
 pub mod EndTexts
+pub mod Following
 pub mod Frames
 pub mod Injections
 pub mod Line

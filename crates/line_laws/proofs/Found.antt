@@ -2,7 +2,7 @@
 -- frame's
 -- rule has one.
 use Rattle.std.proofs.Common.{◌≡◌, ℕ, zero, suc, ◌+◌, ◌-◌, ◌≤◌, List, [], ◌∷◌, ◌++◌, length, map, replicate, refl}
-use Rattle.std.proofs.Common.{arith}
+use Rattle.std.proofs.Common.{subst, arith}
 use Rattle.std.specs.Prelude.{Bool, true, false, ◌==◌, Option, Some, None, IfSome, IsSomeAnd, slice_get, find}
 use Rattle.std.specs.Prelude.{flat_map, cond}
 use Rattle.pattern_defs.specs.declared.outcomes.Flags.{Flags}
@@ -11,7 +11,6 @@ use Rattle.pattern_defs.specs.Patterns.{Tree}
 use Rattle.pattern_defs.specs.Attempt.{Ran, Hit, Miss, Spent, attempt, before, go_on, with_whole, outcome_of}
 use Rattle.pattern_defs.specs.Attempt.{last_hit_captures, capture_of}
 use Rattle.pattern_defs.specs.FirstMatch.{Pair, pairs_at, places, pairs, tried, is_no_miss, first_pair}
-use Rattle.onig_match.specs.Works.{IsPart}
 use Rattle.onig_match.proofs.Parts.{captured_parts, captured_whole}
 use Rattle.scope_defs.specs.Scopes.{Scopes}
 use Rattle.scope_defs.specs.Frames.{Frame}
@@ -21,27 +20,28 @@ use Rattle.line_defs.specs.Runs.{State}
 use Rattle.line_defs.specs.Search.{Of, OfEnd, OfRule, Choice, Matched, Found, Nothing, OutOfBudget, At, Sight}
 use Rattle.line_defs.specs.Search.{choice_of, rule_choices, finish_of, finish_choice, in_order, with_end, choices}
 use Rattle.line_defs.specs.Search.{found_as, found_of, found_by, scan, sight, ordinary, pattern_of}
+use Rattle.line_defs.specs.Search.{while_found}
 use Rattle.line_defs.specs.Injections.{Kept, Injected, InjectedSpent, Keeps, is_earlier, kept_then, weighed}
+use Rattle.line_laws.specs.Matches.{AreParts, LiesIn}
 use Rattle.line_defs.specs.Injections.{after_one, scan_where, injected, wins, decided, with_injections, search}
 
 -- ---- one attempt
 
--- a hit ends at a place or behind it, in a text of so many characters
+-- a hit ends at a place or behind it, in a text of so many characters, and its groups took parts of that
 abbrev pub EndsIn : (from chars : ℕ) → Ran → Type 0
-EndsIn from chars (Hit to captures left) = (from ≤ to) × (to ≤ chars)
+EndsIn from chars (Hit to captures left) = (from ≤ to) × (to ≤ chars) × AreParts chars captures
 EndsIn from chars (Miss left) = Unit {0}
 EndsIn from chars Spent = Unit {0}
 
 with_whole-ends : (from chars : ℕ) (ran : Ran) →
-    (outcomes.Hit ≡ outcome_of (with_whole from ran)
-    → IfSome (capture_of (last_hit_captures (with_whole from ran) []) 0) (IsPart chars)) →
+    (outcomes.Hit ≡ outcome_of (with_whole from ran) → AreParts chars (last_hit_captures (with_whole from ran) [])) →
     (outcomes.Hit ≡ outcome_of (with_whole from ran)
     → IsSomeAnd (capture_of (last_hit_captures (with_whole from ran) []) 0) (λ place. place.from ≡ from)) →
     EndsIn from chars (with_whole from ran)
-with_whole-ends from chars (Hit to [] left) part whole = elim (whole refl) [ ]
-with_whole-ends from chars (Hit to (x ∷ xs) left) part whole = part refl
-with_whole-ends from chars (Miss left) part whole = tt
-with_whole-ends from chars Spent part whole = tt
+with_whole-ends from chars (Hit to [] left) parts whole = elim (whole refl) [ ]
+with_whole-ends from chars (Hit to (x ∷ xs) left) parts whole = ((parts refl 0).0, (parts refl 0).1, parts refl)
+with_whole-ends from chars (Miss left) parts whole = tt
+with_whole-ends from chars Spent parts whole = tt
 
 pub attempt-ends : (tree : Tree) (text : List ℕ) (at : ℕ) (flags : Flags) (budget : ℕ) → at ≤ length text →
     EndsIn at (length text) (attempt tree text at flags budget)
@@ -49,7 +49,7 @@ attempt-ends tree text at flags budget there =
     with_whole-ends at (length text)
     (go_on (record { lists = tree.lists; text = text; flags = flags }) budget
     (before tree.lists tree.top []) at (replicate (tree.groups + 1) None) budget)
-    (λ hit. captured_parts tree text at flags budget [] there hit 0)
+    (λ hit. captured_parts tree text at flags budget [] there hit)
     (λ hit. captured_whole tree text at flags budget [] there hit)
 
 -- ---- the first of some pairs
@@ -120,6 +120,7 @@ pub record IsThere (kind : Kind) (place chars : ℕ) (m : Matched) : Type 0 wher
   pub begins : place ≤ m.from
   pub goes : m.from ≤ m.to
   pub ends : m.to ≤ chars
+  pub parts : AreParts chars m.captures
 
 abbrev pub IfAt : Kind → (place chars : ℕ) → Found → Type 0
 IfAt kind place chars Nothing = Unit {0}
@@ -145,7 +146,7 @@ found_as-there : (kind : Kind) (place chars : ℕ) (of : Of) (from : ℕ) (ran :
     → EndsIn from chars ran →
     IfAt kind place chars (found_as of from ran)
 found_as-there kind place chars of from (Hit to captures left) may begins ends =
-    record { of = may; begins = begins; goes = ends.0; ends = ends.1 }
+    record { of = may; begins = begins; goes = ends.0; ends = ends.1; parts = ends.2 }
 found_as-there kind place chars of from (Miss left) may begins ends = tt
 found_as-there kind place chars of from Spent may begins ends = tt
 
@@ -208,6 +209,13 @@ choices-may_be machine frame =
     with_end-may_be machine (rule_at machine frame.rule).kind (rule_at machine frame.rule).finish_last frame
     (rule_choices machine (rule_at machine frame.rule).active)
     (rule_choices-may_be (rule_at machine frame.rule).kind machine (rule_at machine frame.rule).active)
+
+-- what the while pattern of a frame finds
+pub while-there : (machine : Machine) (text : List ℕ) (state : State) (frame : Frame) → state.place ≤ length text →
+    IfAt BeginEnd state.place (length text) (while_found machine text state frame)
+while-there machine text state frame there =
+    scan-there BeginEnd (sight machine text state) (finish_choice machine frame)
+    (choice_of-may_be BeginEnd OfEnd (finish_of machine (rule_at machine frame.rule).finish frame.end_text) tt) there
 
 -- ---- injections
 
@@ -296,3 +304,32 @@ search-there machine text state there =
     (ordinary machine text state) there
     (scan-there kind (sight machine text state) (choices machine state.stack.top)
     (choices-may_be machine state.stack.top) there)
+
+-- ---- where a match lies
+
+lies-there : (kind : Kind) (place chars : ℕ) (m : Matched) (found : Found) → found ≡ At m →
+    IfAt kind place chars found → LiesIn place chars m
+lies-there kind place chars m found e there = by_match (subst (IfAt kind place chars) e there)
+  where
+    by_match : IsThere kind place chars m → LiesIn place chars m
+    by_match is = record { begins = is.begins; goes = is.goes; ends = is.ends; parts = is.parts }
+
+all-may_be : (choices : List Choice) → AllMayBe BeginEnd choices
+all-may_be [] = tt
+all-may_be (choice ∷ choices) = (any-may_be choice.of, all-may_be choices)
+  where
+    any-may_be : (of : Of) → MayBe BeginEnd of
+    any-may_be OfEnd = tt
+    any-may_be (OfRule number) = tt
+
+pub scan-lies : (s : Sight) (choices : List Choice) (m : Matched) → s.place ≤ length s.text → scan s choices ≡ At m →
+    LiesIn s.place (length s.text) m
+scan-lies s choices m there e =
+    lies-there BeginEnd s.place (length s.text) m (scan s choices) e
+    (scan-there BeginEnd s choices (all-may_be choices) there)
+
+pub search-lies : (machine : Machine) (text : List ℕ) (state : State) (m : Matched) → state.place ≤ length text →
+    search machine text state ≡ At m → LiesIn state.place (length text) m
+search-lies machine text state m there e =
+    lies-there (rule_at machine state.stack.top.rule).kind state.place (length text) m (search machine text state) e
+    (search-there machine text state there)

@@ -1,1 +1,3 @@
+pub mod Matches
 pub mod RunEnds
+pub mod Starts

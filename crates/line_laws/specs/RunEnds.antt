@@ -18,8 +18,8 @@ abbrev pub IsRooted : Machine → Frame → (below : List Frame) → Type 0
 IsRooted machine frame [] = (rule_at machine frame.rule).kind ≢ BeginEnd
 IsRooted machine frame (lower ∷ below) = IsRooted machine lower below
 
--- A line has at most 1,000 frames, and each of the sixteen levels of captures adds two at most: the frame of a begin, and
--- that of a capture's run.
+-- A line has at most 1,000 frames, and each of the sixteen levels of captures adds two at most: the frame of a begin,
+-- and that of a capture's run.
 abbrev pub most_frames_in_captures : ℕ
 most_frames_in_captures = MOST_OPEN + 2 * MOST_LEVELS
 

@@ -1,5 +1,5 @@
 -- How an attempt ends when no entry is left, and what each turn of it keeps.
-use Rattle.std.proofs.Common.{◌≡◌, ℕ, zero, suc, ◌+◌, ◌-◌, ◌*◌, ◌<◌, List, [], ◌∷◌, length, replicate, refl, sym}
+use Rattle.std.proofs.Common.{◌≡◌, ℕ, zero, suc, ◌+◌, ◌-◌, ◌*◌, ◌<◌, ◌≤◌, List, [], ◌∷◌, length, replicate, refl, sym}
 use Rattle.std.proofs.Common.{subst, ◌∙◌, arith}
 use Rattle.std.specs.Prelude.{true, false, Option, Some, None, slice_set}
 use Rattle.std.proofs.lemmas.List.{length-replicate}
@@ -18,16 +18,17 @@ use Rattle.onig_match.specs.declared.entries.Entry.{Entry}
 use Rattle.onig_match.specs.declared.entries.Point.{Point}
 use Rattle.onig_match.specs.declared.entries.Resume.{Resume}
 use Rattle.onig_match.specs.declared.entries.Resume.TheVariants.{Other, Alternatives, AfterAhead, AfterBehind}
-use Rattle.onig_match.specs.declared.entries.Resume.TheVariants.{AfterAtomic}
+use Rattle.onig_match.specs.declared.entries.Resume.TheVariants.{AfterAtomic, GiveBack}
 use Rattle.onig_match.specs.declared.entries.Step.{Step}
 use Rattle.onig_match.specs.declared.entries.Step.TheVariants.{Go}
+use Rattle.onig_match.specs.declared.entries.Visited.{Visited}
 use Rattle.onig_match.specs.declared.area.Area.{Area}
 use Rattle.onig_match.specs.declared.searched.Searched.{Searched}
 use Rattle.onig_match.specs.Goes.{goes}
 use Rattle.onig_match.specs.Piles.{Piled}
 use Rattle.onig_match.specs.Machine.{subject, kept, captures_at, todo_of, resumed, carry, carried, means, with_entry}
 use Rattle.onig_match.specs.Machine.{end_of, rank}
-use Rattle.onig_match.specs.Sound.{AreTaken, IsSound, IsStep, HasRoom, SameRooms, Leads}
+use Rattle.onig_match.specs.Sound.{AreTaken, IsSound, IsStep, HasRoom, SameRooms, Leads, Visits}
 use Rattle.onig_match.proofs.VisitCounts.{goes-zero}
 use Rattle.onig_match.proofs.VisitSteps.{start, start_alone}
 
@@ -48,8 +49,9 @@ resumed-spent s cells captures (AfterAhead false rest) at = refl
 resumed-spent s cells captures (AfterBehind node arm true rest) at = refl
 resumed-spent s cells captures (AfterBehind node arm false rest) at = refl
 resumed-spent s cells captures (AfterAtomic rest) at = refl
+resumed-spent s cells captures (GiveBack more rest) at = refl
 
-carry-spent : (s : Subject) (cells : List Cell) (trail : List Change) (captures : Captures) (entries : List Entry) →
+pub carry-spent : (s : Subject) (cells : List Cell) (trail : List Change) (captures : Captures) (entries : List Entry) →
     carry s cells trail captures entries Spent ≡ Spent
 carry-spent s cells trail captures [] = refl
 carry-spent s cells trail captures (entry ∷ entries) =
@@ -83,21 +85,33 @@ rooms_join a b c ab bc = record {
   trail = bc.trail ∙ ab.trail;
 }
 
-pub after_visit : (on : Searched) (initial self new : Area) (step result : Step) (point : Point) (left : ℕ)
-    (answer : Ran) → step ≡ Go point → (left ≡ 0 → ⊥) → means (subject on) self step left ≡ answer → HasRoom self left
-    → SameRooms initial self → Leads on 1 self (λ l. means (subject on) self (Go point) (suc l)) new result
-    → Turns on initial new result (left - 1) answer (4 * left + 2 * length self.entries.items + rank step)
-after_visit on initial self new step result point left answer e some is has rooms leads =
+-- the budget ends within the step
+pub spent_within : (on : Searched) (self new : Area) (step : Step) (visited : Visited) (point : Point) (left : ℕ)
+    (answer : Ran) → step ≡ Go point → (left ≡ 0 → ⊥) → left - 1 < visited.more →
+    means (subject on) self step left ≡ answer →
+    Visits on self (λ l. means (subject on) self (Go point) (suc l)) new visited → answer ≡ Spent
+spent_within on self new step visited point left answer e some low is visits =
     let one : suc (left - 1) ≡ left = omega (arith, some) in
-    let more : left - 1 + 1 ≡ left = omega (arith, some) in
+    let now : means (subject on) self (Go point) left ≡ answer = rw e at is in
+    sym now ∙ rw one at (visits.spent (left - 1) low)
+
+pub after_visit : (on : Searched) (initial self new : Area) (step : Step) (visited : Visited) (point : Point)
+    (left : ℕ) (answer : Ran) → step ≡ Go point → (left ≡ 0 → ⊥) → visited.more ≤ left - 1 →
+    means (subject on) self step left ≡ answer → HasRoom self left → SameRooms initial self →
+    Visits on self (λ l. means (subject on) self (Go point) (suc l)) new visited →
+    Turns on initial new visited.step (left - 1 - visited.more) answer
+    (4 * left + 2 * length self.entries.items + rank step)
+after_visit on initial self new step visited point left answer e some enough is has rooms visits =
+    let one : suc (left - 1 - visited.more + visited.more) ≡ left = omega (arith, some, enough) in
+    let more : left - 1 - visited.more + (visited.more + 1) ≡ left = omega (arith, some, enough) in
     let now : means (subject on) self (Go point) left ≡ answer = rw e at is in
     record {
-      ends = leads.ends (left - 1) ∙ rw one now;
-      sound = leads.sound;
-      step = leads.step;
-      room = leads.room (left - 1) (rw more has);
-      rooms = rooms_join initial self new rooms leads.rooms;
-      falls = omega (arith, leads.falls, some);
+      ends = visits.leads.ends (left - 1 - visited.more) ∙ rw one now;
+      sound = visits.leads.sound;
+      step = visits.leads.step;
+      room = visits.leads.room (left - 1 - visited.more) (rw more has);
+      rooms = rooms_join initial self new rooms visits.leads.rooms;
+      falls = omega (arith, visits.leads.falls, some, enough);
     }
 
 popped : (self : Area) (rest : Piled Entry) (entry : Entry) → self.entries.items ≡ entry ∷ rest.items →

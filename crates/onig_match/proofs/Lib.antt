@@ -8,6 +8,8 @@ pub mod NodeSteps
 pub mod Parts
 pub mod PileLemmas
 pub mod ReturnSteps
+pub mod RunSteps
+pub mod RunVisits
 pub mod Steps
 pub mod VisitCounts
 pub mod VisitSteps

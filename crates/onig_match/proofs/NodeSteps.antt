@@ -21,14 +21,14 @@ use Rattle.onig_match.specs.declared.cells.Rest.{Rest}
 use Rattle.onig_match.specs.declared.cells.NodeAt.{NodeAt}
 use Rattle.onig_match.specs.declared.cells.Cell.{Cell}
 use Rattle.onig_match.specs.declared.entries.Point.{Point}
-use Rattle.onig_match.specs.declared.entries.Step.{Step}
+use Rattle.onig_match.specs.declared.entries.Visited.{Visited}
 use Rattle.onig_match.specs.declared.entries.Step.TheVariants.{Go, Found, Failed}
 use Rattle.onig_match.specs.declared.area.Area.{Area}
 use Rattle.onig_match.specs.declared.searched.Searched.{Searched}
 use Rattle.onig_match.specs.Goes.{goes}
 use Rattle.onig_match.specs.Machine.{subject, todo_of, carried, means, acted, ids_in, ids_at, arms_in, arms_at}
 use Rattle.onig_match.specs.Machine.{behind_node, step_where, step_back}
-use Rattle.onig_match.specs.Sound.{IsTaken, IsHere, Leads, IsNextArm}
+use Rattle.onig_match.specs.Sound.{IsTaken, IsHere, Leads, Visits, IsNextArm}
 use Rattle.onig_match.proofs.Lists.{starts_with_longer}
 use Rattle.onig_match.proofs.Steps.{AddsCell-none, lead_added}
 use Rattle.onig_match.proofs.ReturnSteps.{drop_some}
@@ -200,21 +200,27 @@ lead_end on old point here none =
     (sym (goes-none (subject on) point.at old.captures.items left))))
 
 -- a visit where something is left to match
-pub lead_visit : (on : Searched) (old new : Area) (point : Point) (first : Todo) (rest : Rest) (result : Step) →
+pub visits_first : (on : Searched) (old new : Area) (point : Point) (first : Todo) (rest : Rest) (result : Visited) →
     todo_of on.pattern.now.lists old.cells.items point.rest
     ≡ first ∷ todo_of on.pattern.now.lists old.cells.items rest
-    → Leads on 1 old (acted on old first rest point.at) new result
-    → Leads on 1 old (λ left. means (subject on) old (Go point) (suc left)) new result
-lead_visit on old new point first rest result todo leads = record {
-  ends = λ left. leads.ends left ∙ rw todo (ap (λ (ran : Ran). carried (subject on) old ran)
-      (sym (goes-act (subject on) first (todo_of on.pattern.now.lists old.cells.items rest) point.at
-      old.captures.items left)));
-  sound = leads.sound;
-  step = leads.step;
-  room = leads.room;
-  rooms = leads.rooms;
-  falls = leads.falls;
-}
+    → Visits on old (acted on old first rest point.at) new result
+    → Visits on old (λ left. means (subject on) old (Go point) (suc left)) new result
+visits_first on old new point first rest result todo visits =
+    let same : (left : ℕ) → acted on old first rest point.at left ≡ means (subject on) old (Go point) (suc left) =
+    λ left. rw todo (ap (λ (ran : Ran). carried (subject on) old ran)
+    (sym (goes-act (subject on) first (todo_of on.pattern.now.lists old.cells.items rest) point.at
+    old.captures.items left))) in
+    record {
+      leads = record {
+        ends = λ left. visits.leads.ends left ∙ same (left + result.more);
+        sound = visits.leads.sound;
+        step = visits.leads.step;
+        room = visits.leads.room;
+        rooms = visits.leads.rooms;
+        falls = visits.leads.falls;
+      };
+      spent = λ left low. sym (same left) ∙ visits.spent left low;
+    }
 
 pub node_there : (lists : NodeLists) (nodes : List PatNode) (here : Rest) (node : PatNode) →
     nodes ≡ nodes_of lists here.list → here.index < length (nodes_of lists here.list) →

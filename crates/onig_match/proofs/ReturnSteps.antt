@@ -13,7 +13,7 @@ use Rattle.onig_match.specs.declared.cells.Cell.{Cell}
 use Rattle.onig_match.specs.declared.entries.Entry.{Entry}
 use Rattle.onig_match.specs.declared.entries.Resume.{Resume}
 use Rattle.onig_match.specs.declared.entries.Resume.TheVariants.{Other, Alternatives, AfterAhead, AfterBehind}
-use Rattle.onig_match.specs.declared.entries.Resume.TheVariants.{AfterAtomic}
+use Rattle.onig_match.specs.declared.entries.Resume.TheVariants.{AfterAtomic, GiveBack}
 use Rattle.onig_match.specs.declared.entries.Step.{Step}
 use Rattle.onig_match.specs.declared.entries.Step.TheVariants.{Go, Found, Failed}
 use Rattle.onig_match.specs.declared.area.Area.{Area}
@@ -53,7 +53,7 @@ drop_none (y ∷ ys) (suc k) e = drop_none ys k e
 
 -- arms
 
-or_else-next : (ran : Ran) (f g : ℕ → Ran) → ((left : ℕ) → f left ≡ g left) → or_else ran f ≡ or_else ran g
+pub or_else-next : (ran : Ran) (f g : ℕ → Ran) → ((left : ℕ) → f left ≡ g left) → or_else ran f ≡ or_else ran g
 or_else-next (Hit at captures left) f g same = refl
 or_else-next (Miss left) f g same = same left
 or_else-next Spent f g same = refl
@@ -197,23 +197,23 @@ module _ (on : Searched) (old : Area) (entry : Entry) where
     falls = omega (arith, rank_small result);
   }
 
-  lead_reentered : (resume : Resume) (result : Step) → rank result ≡ 0 →
+  lead_reentered : (resume : Resume) (to : ℕ) (result : Step) → rank result ≡ 0 → to ≤ length on.text.now →
       IsSound on (with_entry old entry) → IsResume on.pattern.now (length cells_back) resume →
       IsStep on (length cells_back) result → ((left : ℕ) →
       resumed (subject on) cells_back
-      captures_back resume entry.at
+      captures_back resume to
       (ran_of (subject on) (rewound old entry) result left)
       ≡ resumed (subject on) cells_back
       captures_back entry.resume entry.at (Miss left))
       → Leads on 0 (with_entry old entry) (missed)
-      (with_entry (rewound old entry) (made (rewound old entry) resume entry.at)) result
-  lead_reentered resume result goes_on sound is step ends = record {
+      (with_entry (rewound old entry) (made (rewound old entry) resume to)) result
+  lead_reentered resume to result goes_on low sound is step ends = record {
     ends = λ left.
         carry-entry (subject on) (rewound old entry).cells.items (rewound old entry).trail.items
-        (rewound old entry).captures.items (made (rewound old entry) resume entry.at) old.entries.items
+        (rewound old entry).captures.items (made (rewound old entry) resume to) old.entries.items
         (ran_of (subject on) (rewound old entry) result left) refl refl
         ∙ ap (λ (ran : Ran). carried (subject on) (rewound old entry) ran) (ends left);
-    sound = sound_entered on (rewound old entry) resume entry.at (sound_rewound sound) sound.entries.0.at is;
+    sound = sound_entered on (rewound old entry) resume to (sound_rewound sound) low is;
     step = step;
     room = λ left has. record {
       cells = (room_kept sound left has).cells;
@@ -274,8 +274,8 @@ module _ (on : Searched) (old : Area) (entry : Entry) where
       drop_some (ids_at on.pattern.now.lists node) way id (sym there) in
       let is : IsResume on.pattern.now (length cells_back) (Alternatives node way next) =
       resume_kept (Alternatives node way next) sound e in
-      lead_reentered (Alternatives node (way + 1) next)
-      (Go (record { rest = start id next; at = entry.at })) refl sound is
+      lead_reentered (Alternatives node (way + 1) next) entry.at
+      (Go (record { rest = start id next; at = entry.at })) refl sound.entries.0.at sound is
       (record { list = inside; next = is.1 }, sound.entries.0.at)
       (λ left. rw (e, ways) refl)
 
@@ -287,6 +287,25 @@ module _ (on : Searched) (old : Area) (entry : Entry) where
       let ways : drop way (ids_at on.pattern.now.lists node) ≡ [] =
       drop_none (ids_at on.pattern.now.lists node) way (sym there) in
       lead_rewound Failed sound tt (λ left. rw (e, ways) refl)
+
+  pub miss_last_place : (rest : Rest) → IsSound on (with_entry old entry) → entry.resume ≡ GiveBack 0 rest →
+      Leads on 0 (with_entry old entry) (missed) (rewound old entry)
+      (Go (record { rest = rest; at = entry.at }))
+  miss_last_place rest sound e =
+      lead_rewound (Go (record { rest = rest; at = entry.at })) sound
+      (resume_kept (GiveBack 0 rest) sound e, sound.entries.0.at) (λ left. rw e refl)
+
+  pub miss_place : (more : ℕ) (rest : Rest) → IsSound on (with_entry old entry) →
+      entry.resume ≡ GiveBack (suc more) rest →
+      Leads on 0 (with_entry old entry) (missed)
+      (with_entry (rewound old entry) (made (rewound old entry) (GiveBack more rest) (entry.at - 1)))
+      (Go (record { rest = rest; at = entry.at }))
+  miss_place more rest sound e =
+      let is : IsResume on.pattern.now (length cells_back) (GiveBack (suc more) rest) =
+      resume_kept (GiveBack (suc more) rest) sound e in
+      let early : entry.at ≤ length on.text.now = sound.entries.0.at in
+      lead_reentered (GiveBack more rest) (entry.at - 1) (Go (record { rest = rest; at = entry.at })) refl
+      (omega arith) sound is (is, early) (λ left. rw e refl)
 
   pub miss_ahead : (rest : Rest) → IsSound on (with_entry old entry) →
       entry.resume ≡ AfterAhead true rest →
@@ -320,8 +339,8 @@ module _ (on : Searched) (old : Area) (entry : Entry) where
       let is : IsResume on.pattern.now (length cells) (AfterBehind node arm wanted rest) =
       resume_kept (AfterBehind node arm wanted rest) sound e in
       let early : entry.at ≤ length on.text.now = sound.entries.0.at in
-      lead_reentered (AfterBehind node (k + 1) wanted rest)
-      (Go (record { rest = start one.body 0; at = entry.at - one.length })) refl sound is
+      lead_reentered (AfterBehind node (k + 1) wanted rest) entry.at
+      (Go (record { rest = start one.body 0; at = entry.at - one.length })) refl early sound is
       (record { list = inside; next = omega arith }, omega arith)
       (λ left. rw (e, start_alone on.pattern.now.lists cells one.body)
       (ap (λ (ran : Ran). looked wanted ran (goes s) (todo_of on.pattern.now.lists cells rest) entry.at captures)
@@ -368,6 +387,11 @@ module _ (on : Searched) (old : Area) (entry : Entry) where
       Leads on 0 (with_entry old entry) (hits end) (cut old entry) (Found end)
   hit_alternatives node way next end sound low e =
       lead_cut end (Found end) sound low (λ left. rw e refl)
+
+  pub hit_place : (more : ℕ) (rest : Rest) (end : ℕ) →
+      IsSound on (with_entry old entry) → end ≤ length on.text.now → entry.resume ≡ GiveBack more rest →
+      Leads on 0 (with_entry old entry) (hits end) (cut old entry) (Found end)
+  hit_place more rest end sound low e = lead_cut end (Found end) sound low (λ left. rw e refl)
 
   pub hit_ahead : (rest : Rest) (end : ℕ) →
       IsSound on (with_entry old entry) → entry.resume ≡ AfterAhead true rest →

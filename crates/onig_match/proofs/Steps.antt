@@ -20,7 +20,7 @@ use Rattle.onig_match.specs.Piles.{Piled}
 use Rattle.onig_match.specs.Machine.{subject, kept, chain, cell_todo, undone, captures_at, resumed, carried, ran_of}
 use Rattle.onig_match.specs.Machine.{with_entry, rank}
 use Rattle.onig_match.specs.Sound.{IsRest, IsCell, AreCells, IsResume, AreEntries, IsTaken, AreTaken, AreChanges}
-use Rattle.onig_match.specs.Sound.{IsSound, IsStep, HasRoom, SameRooms, Leads, AddsCell}
+use Rattle.onig_match.specs.Sound.{IsSound, IsStep, HasRoom, SameRooms, Leads, Visits, AddsCell}
 use Rattle.onig_match.proofs.Carries.{chain-older, chain-newest, todo_of-older, carry-cell, carry-entry}
 
 -- what holds of the parts
@@ -263,6 +263,23 @@ module _ (on : Searched) (old area : Area) (answer : ℕ → Ran) where
     };
     falls = rw adds.entries (omega (arith, rank_small result));
   }
+
+-- a visit with no more of them in the same step
+pub visits_once : (on : Searched) (old : Area) (answer : ℕ → Ran) (new : Area) (step : Step) →
+    Leads on 1 old answer new step → Visits on old answer new (record { step = step; more = 0 })
+visits_once on old answer new step leads =
+    let none : (left : ℕ) → left + 0 ≡ left = λ left. omega arith in
+    record {
+      leads = record {
+        ends = λ left. leads.ends left ∙ rw (none left) refl;
+        sound = leads.sound;
+        step = leads.step;
+        room = leads.room;
+        rooms = leads.rooms;
+        falls = leads.falls;
+      };
+      spent = λ left low. absurd (omega arith);
+    }
 
 -- going back over one change
 

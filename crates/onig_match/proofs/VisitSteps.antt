@@ -25,12 +25,12 @@ use Rattle.onig_match.proofs.Carries.{chain-zero, chain-newest, carry-change}
 use Rattle.onig_match.proofs.Steps.{IsRest-widen, AreEntries-widen, AreTaken-set, AreTaken-get, AddsCell-none}
 use Rattle.onig_match.proofs.Steps.{AddsCell-new, made, lead_added, lead_entered}
 
-or_else_miss : (ran : Ran) → or_else ran (λ left. Miss left) ≡ ran
+pub or_else_miss : (ran : Ran) → or_else ran (λ left. Miss left) ≡ ran
 or_else_miss (Hit at captures left) = refl
 or_else_miss (Miss left) = refl
 or_else_miss Spent = refl
 
-or_else_two : (ran : Ran) (next : ℕ → Ran) →
+pub or_else_two : (ran : Ran) (next : ℕ → Ran) →
     or_else ran (λ left. or_else (next left) (λ rest. Miss rest)) ≡ or_else ran next
 or_else_two (Hit at captures left) next = refl
 or_else_two (Miss left) next = or_else_miss (next left)

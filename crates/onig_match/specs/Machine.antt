@@ -1,5 +1,5 @@
 -- What the stack of an attempt stands for: what is still to match, and what is done with an end of the list in hand.
-use Rattle.std.specs.Prelude.{ℕ, suc, ◌+◌, ◌-◌, ◌==◌, List, [], ◌∷◌, ◌++◌, length, map, take, drop, Bool, true, false}
+use Rattle.std.specs.Prelude.{ℕ, zero, suc, ◌+◌, ◌-◌, ◌==◌, List, [], ◌∷◌, ◌++◌, length, map, take, drop, Bool, true, false}
 use Rattle.std.specs.Prelude.{Option, Some, None, slice_get, slice_set}
 use Rattle.pattern_defs.specs.declared.nodes.ListId.{ListId}
 use Rattle.pattern_defs.specs.declared.nodes.Arm.{Arm}
@@ -7,7 +7,8 @@ use Rattle.pattern_defs.specs.declared.nodes.PatNode.{PatNode}
 use Rattle.pattern_defs.specs.declared.nodes.PatNode.TheVariants.{Choice, Behind}
 use Rattle.pattern_defs.specs.declared.outcomes.Place.{Place}
 use Rattle.pattern_defs.specs.Patterns.{NodeLists, nodes_of}
-use Rattle.pattern_defs.specs.Attempt.{Subject, Captures, Todo, Node, Close, Again, Ran, Hit, Miss, Spent, before}
+use Rattle.pattern_defs.specs.Attempt.{Subject, Captures, Todo, Node, Close, Again, Ran, Hit, Miss, Spent, Going}
+use Rattle.pattern_defs.specs.Attempt.{before}
 use Rattle.pattern_defs.specs.Attempt.{or_else, tries, looked, arms_run, kept_whole, act, stands_again}
 use Rattle.onig_match.specs.declared.cells.Rest.{Rest}
 use Rattle.onig_match.specs.declared.cells.NodeAt.{NodeAt}
@@ -18,7 +19,7 @@ use Rattle.onig_match.specs.declared.cells.Front.TheVariants.{AtEnd, AtNode, AtG
 use Rattle.onig_match.specs.declared.entries.Change.{Change}
 use Rattle.onig_match.specs.declared.entries.Resume.{Resume}
 use Rattle.onig_match.specs.declared.entries.Resume.TheVariants.{Other, Alternatives, AfterAhead, AfterBehind}
-use Rattle.onig_match.specs.declared.entries.Resume.TheVariants.{AfterAtomic}
+use Rattle.onig_match.specs.declared.entries.Resume.TheVariants.{AfterAtomic, GiveBack}
 use Rattle.onig_match.specs.declared.entries.Entry.{Entry}
 use Rattle.onig_match.specs.declared.entries.End.{End}
 use Rattle.onig_match.specs.declared.entries.End.TheVariants as ends
@@ -100,6 +101,12 @@ undone (change ∷ older) captures = undone older (slice_set captures change.num
 abbrev pub captures_at : ℕ → List Change → Captures → Captures
 captures_at height trail captures = undone (take (length trail - height) trail) captures
 
+-- going on at a place and, where that finds nothing, at so many places before it, one after the other
+abbrev pub given_back : Going → List Todo → ℕ → ℕ → Captures → ℕ → Ran
+given_back go todo zero at captures left = go todo at captures left
+given_back go todo (suc more) at captures left =
+    or_else (go todo at captures left) (λ rest. given_back go todo more (at - 1) captures rest)
+
 -- what is done at an entry with an end of what was tried above it
 abbrev pub resumed : Subject → List Cell → Captures → Resume → ℕ → Ran → Ran
 resumed s cells captures (Other rest) at ran =
@@ -116,6 +123,8 @@ resumed s cells captures (AfterBehind node arm wanted rest) at ran =
     (goes s)
     (todo_of s.lists cells rest) at captures
 resumed s cells captures (AfterAtomic rest) at ran = kept_whole ran (goes s) (todo_of s.lists cells rest)
+resumed s cells captures (GiveBack more rest) at ran =
+    or_else ran (λ left. given_back (goes s) (todo_of s.lists cells rest) more at captures left)
 
 -- the end of the attempt, by the end of what is tried above the entries
 abbrev pub carry : Subject → List Cell → List Change → Captures → List Entry → Ran → Ran

@@ -1,10 +1,10 @@
 -- What holds of the stack of an attempt at each step.
-use Rattle.std.specs.Prelude.{◌≡◌, ℕ, ◌+◌, ◌*◌, ◌^◌, ◌<◌, ◌≤◌, List, [], ◌∷◌, length, drop, filter, nat_le, Option}
-use Rattle.std.specs.Prelude.{Some, None, slice_get, slice_set}
+use Rattle.std.specs.Prelude.{◌≡◌, ℕ, ◌+◌, ◌*◌, ◌^◌, ◌<◌, ◌≤◌, List, [], ◌∷◌, length, drop, filter, nat_le, Bool}
+use Rattle.std.specs.Prelude.{true, false, Option, Some, None, slice_get, slice_set}
 use Rattle.pattern_defs.specs.declared.nodes.Arm.{Arm}
 use Rattle.pattern_defs.specs.declared.outcomes.Place.{Place}
 use Rattle.pattern_defs.specs.Patterns.{NodeLists, Tree, nodes_of}
-use Rattle.pattern_defs.specs.Attempt.{Captures, Ran}
+use Rattle.pattern_defs.specs.Attempt.{Captures, Ran, Spent, is_char, is_greatest}
 use Rattle.onig_match.specs.declared.cells.Rest.{Rest}
 use Rattle.onig_match.specs.declared.cells.Cell.{Cell}
 use Rattle.onig_match.specs.declared.cells.Cell.TheVariants.{Nodes, GroupEnd, Iteration}
@@ -13,10 +13,11 @@ use Rattle.onig_match.specs.declared.cells.Front.TheVariants.{AtEnd, AtNode, AtG
 use Rattle.onig_match.specs.declared.entries.Change.{Change}
 use Rattle.onig_match.specs.declared.entries.Resume.{Resume}
 use Rattle.onig_match.specs.declared.entries.Resume.TheVariants.{Other, Alternatives, AfterAhead, AfterBehind}
-use Rattle.onig_match.specs.declared.entries.Resume.TheVariants.{AfterAtomic}
+use Rattle.onig_match.specs.declared.entries.Resume.TheVariants.{AfterAtomic, GiveBack}
 use Rattle.onig_match.specs.declared.entries.Entry.{Entry}
 use Rattle.onig_match.specs.declared.entries.Step.{Step}
 use Rattle.onig_match.specs.declared.entries.Step.TheVariants.{Go, Found, Failed}
+use Rattle.onig_match.specs.declared.entries.Visited.{Visited}
 use Rattle.onig_match.specs.declared.area.Area.{Area}
 use Rattle.onig_match.specs.declared.searched.Searched.{Searched}
 use Rattle.onig_match.specs.Machine.{subject, means, carried, todo_of, rank}
@@ -50,6 +51,7 @@ IsResume tree cells (Alternatives node way next) = (node.list.0 < length tree.li
 IsResume tree cells (AfterAhead wanted rest) = IsRest tree cells rest
 IsResume tree cells (AfterBehind node arm wanted rest) = (node.list.0 < length tree.lists) × IsRest tree cells rest
 IsResume tree cells (AfterAtomic rest) = IsRest tree cells rest
+IsResume tree cells (GiveBack more rest) = IsRest tree cells rest
 
 -- an entry above so many cells and changes
 pub record IsEntry (tree : Tree) (chars cells trail : ℕ) (entry : Entry) : Type 0 where
@@ -121,6 +123,17 @@ pub record Leads (on : Searched) (visits : ℕ) (old : Area) (answer : ℕ → R
   pub room : (left : ℕ) → HasRoom old (left + visits) → HasRoom new left
   pub rooms : SameRooms old new
   pub falls : 2 * length new.entries.items + rank result ≤ 2 * length old.entries.items + 3 * visits
+
+-- A visit, and so many more in the same step. Before they are done the attempt doesn't end but by its budget.
+pub record Visits (on : Searched) (old : Area) (answer : ℕ → Ran) (new : Area) (result : Visited) : Type 0 where
+  pub leads : Leads on (result.more + 1) old (λ left. answer (left + result.more)) new result.step
+  pub spent : (left : ℕ) → left < result.more → answer left ≡ Spent
+
+-- so many characters, of those that hold, stand from a place on: as many as there are, or as may be
+pub record IsRun (p : ℕ → Bool) (text : List ℕ) (at : ℕ) (most : Option ℕ) (taken : ℕ) : Type 0 where
+  pub all : (k : ℕ) → k < taken → is_char p (slice_get text (at + k)) ≡ true
+  pub may : (k : ℕ) → k < taken → is_greatest most k ≡ false
+  pub ends : is_greatest most taken ≡ false → is_char p (slice_get text (at + taken)) ≡ false
 
 -- at most a cell is added, which changes no end of the attempt
 pub record AddsCell (on : Searched) (old new : Area) : Type 0 where

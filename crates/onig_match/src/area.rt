@@ -7,6 +7,7 @@ use crate::captures::Captures;
 use crate::cells::{Cell, Front, Repeated, Rest};
 use crate::entries::{Change, Entry, Point, Resume, Step};
 use crate::pile::Pile;
+use crate::runs::is_most;
 use crate::searched::Searched;
 use pattern_defs::{ListId, Place};
 
@@ -48,11 +49,7 @@ fn is_stuck(count: u32, begun: u32, at: u32) -> bool
 fn is_done(repeat: Repeated, count: u32) -> bool
     ensures { result ≡ (not (nat_lt count repeat.least) && is_greatest repeat.most count) }
 {
-    let most = match repeat.most {
-        Some(most) => most == count,
-        None => false,
-    };
-    count >= repeat.least && most
+    count >= repeat.least && is_most(repeat.most, count)
 }
 
 impl Area {

@@ -31,6 +31,11 @@ pub(crate) enum Resume {
         rest: Rest,
     },
     AfterAtomic(Rest),
+    /// What is behind a run of single characters, here and then at so many places before, each a character less.
+    GiveBack {
+        more: u32,
+        rest: Rest,
+    },
 }
 
 /// A place to go back to: how to go on there, and how many cells and changes there were.
@@ -55,6 +60,13 @@ pub(crate) enum Step {
     Go(Point),
     Found(u32),
     Failed,
+}
+
+/// What a visit leads to, and how many visits more were done in the same step.
+#[derive(Clone, Copy, Debug, PartialEq, Eq)]
+pub(crate) struct Visited {
+    pub(crate) step: Step,
+    pub(crate) more: u64,
 }
 
 /// How an attempt ends: at a place, nowhere, or by its budget.

@@ -30,6 +30,10 @@
 //! on (`AfterAhead`, `AfterBehind`, `AfterAtomic`), and their list is run before no cell. Where it ends, all entries
 //! above that one are dropped, as their ways aren't wanted any more (`after_hit`); where it fails, the entry is reached
 //! by going back (`after_miss`). The alternatives of a choice are one entry that moves on from way to way.
+//!
+//! A greedy repeat of one single character is done in one step (`visit_run`): it takes all characters that it may, and
+//! their visits are charged at once, two for each and one for the look at which it ended. In the text `aab` the visits 1
+//! to 6 of `a*b` are one step, and leave one entry (`GiveBack`) that stands for the rest `b` at 1 and then at 0.
 #![tactic(auto)]
 
 mod anchors;
@@ -41,6 +45,7 @@ mod entries;
 pub mod laws;
 mod pile;
 mod returns;
+mod runs;
 mod searched;
 mod visits;
 pub mod work;

@@ -110,6 +110,14 @@ impl Area {
                 None => { if wanted { Step::Failed } else { go(rest, at) } }
             },
             Resume::AfterAtomic(_) => Step::Failed,
+            Resume::GiveBack { more, rest } => {
+                if more == 0 {
+                    return go(rest, at);
+                }
+                let more = more - 1;
+                self.enter(Resume::GiveBack { more, rest }, at.saturating_sub(1));
+                go(rest, at)
+            }
         }
     }
 
@@ -141,6 +149,7 @@ impl Area {
                 }
             }
             Resume::AfterAtomic(rest) => go(rest, end),
+            Resume::GiveBack { .. } => Step::Found(end),
         }
     }
 }

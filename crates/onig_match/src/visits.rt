@@ -5,13 +5,14 @@ ghost use Rattle.pattern_defs.specs.declared.nodes.PatNode.TheVariants.{Choice, 
 ghost use Rattle.pattern_defs.specs.Patterns.{IsNode, nodes_of};
 ghost use Rattle.pattern_defs.specs.Attempt.{Node, Close, is_char, holds_at};
 ghost use Rattle.onig_match.specs.Machine.{subject, step_where, ids_at, arms_at, acted, means, node_of, behind_node};
-ghost use Rattle.onig_match.specs.Sound.{IsHere, IsRest, IsSound, HasRoom, Leads};
+ghost use Rattle.onig_match.specs.Sound.{IsHere, IsRest, IsSound, HasRoom, Leads, Visits};
 
-use crate::anchors::{char_at, holds};
+use crate::anchors::holds;
 use crate::area::{Area, go, start_of};
 use crate::backs::steps_back;
 use crate::cells::{Cell, Front, NodeAt, Repeated, Rest};
-use crate::entries::{Point, Resume, Step};
+use crate::entries::{Point, Resume, Step, Visited};
+use crate::runs::{Bounds, is_in, only_char};
 use crate::searched::Searched;
 use char_sets::CharSet;
 use pattern_defs::{Anchor, ListId, PatNode, Place};
@@ -20,15 +21,10 @@ fn visit_one(set: &CharSet, on: &Searched<'_>, rest: Rest, at: u32) -> Step
     requires { length on.now.text.now < 2 ^ 31 }
     ensures { result ≡ step_where (is_char (in_set set.now) (slice_get on.now.text.now at)) rest (at + 1) }
 {
-    match char_at(on.text, at) {
-        Some(c) => {
-            if set.has(c) {
-                go(rest, at + 1)
-            } else {
-                Step::Failed
-            }
-        }
-        None => Step::Failed,
+    if is_in(set, on.text, at) {
+        go(rest, at + 1)
+    } else {
+        Step::Failed
     }
 }
 
@@ -41,6 +37,13 @@ fn visit_anchor(anchor: Anchor, on: &Searched<'_>, rest: Rest, at: u32) -> Step
     } else {
         Step::Failed
     }
+}
+
+/// A visit with no more of them in the same step.
+fn once(step: Step) -> Visited
+    ensures { result ≡ record { step = step; more = 0 } }
+{
+    Visited { step, more: 0 }
 }
 
 /// The node at the start of the rest of a list.
@@ -202,27 +205,56 @@ impl Area {
         }
     }
 
-    /// One look at what is still to match.
-    pub(crate) fn visit(&mut self, on: &Searched<'_>, point: Point) -> Step
+    /// A visit of the first of what is still to match, where it is a node. A greedy repeat of a single character is done
+    /// in one step.
+    fn visit_first(&mut self, on: &Searched<'_>, node: &PatNode, here: Rest, at: u32) -> Visited
+        requires here { IsHere on.now self.old here at }
+        requires node { slice_get (nodes_of on.now.pattern.now.lists here.list) here.index ≡ Some node.now }
+        requires names { IsNode (length on.now.pattern.now.lists) on.now.pattern.now.groups node.now }
+        requires index { here.index + 1 < 2 ^ 64 }
+        ensures { Visits on.now self.old (acted on.now self.old (Node node.now) (behind_node here) at) self.new result }
+    {
+        match node {
+            PatNode::Repeat {
+                body,
+                least,
+                most,
+                greedy: true,
+            } => match only_char(on.pattern.list(*body)) {
+                Some(set) => {
+                    let bounds = Bounds {
+                        least: *least,
+                        most: *most,
+                    };
+                    self.visit_run(on, set, *body, bounds, after_node(here), at)
+                }
+                None => once(self.visit_node(on, node, here, at)),
+            },
+            _ => once(self.visit_node(on, node, here, at)),
+        }
+    }
+
+    /// One look at what is still to match, and those that follow it in the same step.
+    pub(crate) fn visit(&mut self, on: &Searched<'_>, point: Point) -> Visited
         requires { IsHere on.now self.old point.rest point.at }
-        ensures { Leads on.now 1 self.old
-            (λ left. means (subject on.now) self.old (Step.Go point) (suc left)) self.new result }
+        ensures { Visits on.now self.old (λ left. means (subject on.now) self.old (Step.Go point) (suc left))
+            self.new result }
     {
         match self.front(on, point.rest) {
-            Front::AtEnd => Step::Found(point.at),
+            Front::AtEnd => once(Step::Found(point.at)),
             Front::AtNode(rest) => {
                 let nodes = on.pattern.list(rest.list);
-                self.visit_node(on, &nodes[rest.index], rest, point.at)
+                self.visit_first(on, &nodes[rest.index], rest, point.at)
             }
             Front::AtGroupEnd { group, from, rest } => {
-                self.visit_group_end(on, group, from, rest, point.at)
+                once(self.visit_group_end(on, group, from, rest, point.at))
             }
             Front::AtIteration {
                 repeat,
                 count,
                 begun,
                 rest,
-            } => self.repeat(on, repeat, count, begun, rest, point.at),
+            } => once(self.repeat(on, repeat, count, begun, rest, point.at)),
         }
     }
 }

@@ -100,7 +100,12 @@ impl Area {
                         return End::Spent;
                     }
                     left -= 1;
-                    self.visit(on, point)
+                    let visited = self.visit(on, point);
+                    if (left as u64) < visited.more {
+                        return End::Spent;
+                    }
+                    left -= visited.more as u32;
+                    visited.step
                 }
                 Step::Found(end) => match self.entries.pop() {
                     Some(entry) => self.after_hit(on, entry, end),

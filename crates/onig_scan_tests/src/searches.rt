@@ -81,7 +81,7 @@ fn fields(alloc: Global, row: &str) -> Result<Vec<&str>, AllocError> {
 }
 
 /// What is wrong with the rows of a table, of which there are so many.
-fn faults(alloc: Global, table: &str, count: usize) -> Result<String, AllocError> {
+pub(crate) fn faults(alloc: Global, table: &str, count: usize) -> Result<String, AllocError> {
     let mut all = String::new(alloc);
     let mut rows = 0u64;
     for row in table.split_terminator('\u{b6}') {

@@ -1,5 +1,5 @@
 use Rattle.onig_match.proofs.ReturnSteps.{hit_other, hit_alternatives, hit_ahead, hit_not_ahead, hit_behind}
-use Rattle.onig_match.proofs.ReturnSteps.{hit_not_behind, hit_atomic}
+use Rattle.onig_match.proofs.ReturnSteps.{hit_not_behind, hit_atomic, hit_place}
 use Rattle.onig_match.proofs.area.Area.after_hit.Goals as goal
 
 pub returns-in-Other : goal.returns-in-Other
@@ -41,3 +41,8 @@ returns-in-AfterAtomic c =
     rw (c.cut.ensures, c.go-in-AfterAtomic.ensures)
     (hit_atomic c.args.on.now c.args.self.now c.args.entry c.in-AfterAtomic.rest c.args.end c.requires.sound
     c.requires.end c.in-AfterAtomic.is)
+
+pub returns-in-GiveBack : goal.returns-in-GiveBack
+returns-in-GiveBack c =
+    rw c.cut.ensures (hit_place c.args.on.now c.args.self.now c.args.entry c.in-GiveBack.more c.in-GiveBack.rest
+    c.args.end c.requires.sound c.requires.end c.in-GiveBack.is)

@@ -1,5 +1,7 @@
+use Rattle.std.proofs.Common.{◌≡◌, suc, ◌-◌, arith}
 use Rattle.onig_match.proofs.ReturnSteps.{sound_below, miss_other, miss_alternative, miss_alternatives, miss_ahead}
 use Rattle.onig_match.proofs.ReturnSteps.{miss_not_ahead, miss_arm, miss_behind, miss_not_behind, miss_atomic}
+use Rattle.onig_match.proofs.ReturnSteps.{miss_last_place, miss_place}
 use Rattle.onig_match.proofs.area.Area.after_miss.Goals as goal
 
 pub rewind-requires : goal.rewind-requires
@@ -66,3 +68,16 @@ pub returns-in-AfterAtomic : goal.returns-in-AfterAtomic
 returns-in-AfterAtomic c =
     rw c.rewind.ensures (miss_atomic c.args.on.now c.args.self.now c.args.entry c.in-AfterAtomic.field-0
     c.requires.sound c.in-AfterAtomic.is)
+
+pub returns-then-more-eq0 : goal.returns-then-more-eq0
+returns-then-more-eq0 c =
+    rw (c.rewind.ensures, c.go-then-more-eq0.ensures)
+    (miss_last_place c.args.on.now c.args.self.now c.args.entry c.in-GiveBack.rest c.requires.sound
+    (rw c.if-more-eq0.true at c.in-GiveBack.is))
+
+pub returns-else-more-eq0 : goal.returns-else-more-eq0
+returns-else-more-eq0 c =
+    let one : c.in-GiveBack.more ≡ suc (c.in-GiveBack.more - 1) = omega (arith, c.if-more-eq0.false) in
+    rw (c.enter-in-GiveBack.ensures, c.rewind.ensures, c.go-in-GiveBack.ensures, c.saturating_sub.ensures)
+    (miss_place c.args.on.now c.args.self.now c.args.entry (c.in-GiveBack.more - 1) c.in-GiveBack.rest c.requires.sound
+    (rw one at c.in-GiveBack.is))

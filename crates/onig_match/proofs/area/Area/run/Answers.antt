@@ -1,7 +1,7 @@
 use Rattle.std.proofs.Common.{refl, arith}
 use Rattle.pattern_defs.specs.Attempt.{Hit, Miss}
 use Rattle.onig_match.specs.declared.area.Area.{Area}
-use Rattle.onig_match.proofs.Ends.{begins, spent, after_visit, after_pop}
+use Rattle.onig_match.proofs.Ends.{begins, spent, spent_within, after_visit, after_pop}
 use Rattle.onig_match.proofs.area.Area.run.Goals as goal
 
 pub loop-step-init : goal.loop-step-init
@@ -25,19 +25,31 @@ returns-then-left-eq0-clause-captures c =
     rw (spent c.args.on.now c.loop-step.self c.loop-step.step c.in-Go.point c.loop-step.left _ c.in-Go.is
     c.if-left-eq0.true c.loop-step.invariant.ends) refl
 
-pub loop-step-smaller-else-left-eq0 : goal.loop-step-smaller-else-left-eq0
-loop-step-smaller-else-left-eq0 c =
-    (after_visit c.args.on.now c.args.self.now c.loop-step.self c.visit-step.new.self c.loop-step.step
-    c.visit-step.result c.in-Go.point c.loop-step.left _
-    c.in-Go.is c.if-left-eq0.false c.loop-step.invariant.ends c.loop-step.invariant.room c.loop-step.invariant.rooms
-    c.visit-step.ensures).falls
+pub returns-then-left-visited-clause-end : goal.returns-then-left-visited-clause-end
+returns-then-left-visited-clause-end c =
+    rw (spent_within c.args.on.now c.loop-step.self c.visit-visited.new.self c.loop-step.step c.visit-visited.result
+    c.in-Go.point c.loop-step.left _ c.in-Go.is c.if-left-eq0.false c.if-left-visited.true c.loop-step.invariant.ends
+    c.visit-visited.ensures) refl
 
-pub loop-step-preserved-else-left-eq0 : goal.loop-step-preserved-else-left-eq0
-loop-step-preserved-else-left-eq0 c =
-    let turn = after_visit c.args.on.now c.args.self.now c.loop-step.self c.visit-step.new.self c.loop-step.step
-    c.visit-step.result c.in-Go.point c.loop-step.left _
-    c.in-Go.is c.if-left-eq0.false c.loop-step.invariant.ends c.loop-step.invariant.room c.loop-step.invariant.rooms
-    c.visit-step.ensures in
+pub returns-then-left-visited-clause-captures : goal.returns-then-left-visited-clause-captures
+returns-then-left-visited-clause-captures c =
+    rw (spent_within c.args.on.now c.loop-step.self c.visit-visited.new.self c.loop-step.step c.visit-visited.result
+    c.in-Go.point c.loop-step.left _ c.in-Go.is c.if-left-eq0.false c.if-left-visited.true c.loop-step.invariant.ends
+    c.visit-visited.ensures) refl
+
+pub loop-step-smaller-else-left-visited : goal.loop-step-smaller-else-left-visited
+loop-step-smaller-else-left-visited c =
+    (after_visit c.args.on.now c.args.self.now c.loop-step.self c.visit-visited.new.self c.loop-step.step
+    c.visit-visited.result c.in-Go.point c.loop-step.left _
+    c.in-Go.is c.if-left-eq0.false c.if-left-visited.false c.loop-step.invariant.ends c.loop-step.invariant.room
+    c.loop-step.invariant.rooms c.visit-visited.ensures).falls
+
+pub loop-step-preserved-else-left-visited : goal.loop-step-preserved-else-left-visited
+loop-step-preserved-else-left-visited c =
+    let turn = after_visit c.args.on.now c.args.self.now c.loop-step.self c.visit-visited.new.self c.loop-step.step
+    c.visit-visited.result c.in-Go.point c.loop-step.left _
+    c.in-Go.is c.if-left-eq0.false c.if-left-visited.false c.loop-step.invariant.ends c.loop-step.invariant.room
+    c.loop-step.invariant.rooms c.visit-visited.ensures in
     record { ends = turn.ends; sound = turn.sound; step = turn.step; room = turn.room; rooms = turn.rooms }
 
 pub loop-step-smaller-in-Some : goal.loop-step-smaller-in-Some

@@ -1,0 +1,4 @@
+pub mod CodeSets
+pub mod Alike
+pub mod Searches
+pub mod Readings
