@@ -1,0 +1,15 @@
+-- A tree that stands for all marks of lines.
+use Rattle.std.specs.Prelude.{◌≡◌, ℕ, List}
+use Rattle.tree_defs.specs.Tree.{Tree}
+use Rattle.tree_defs.specs.Shape.{length_of, IsEven}
+use Rattle.tree_defs.specs.Items.{items_of, behind, Stands}
+use Rattle.tree_defs.specs.Rows.{start, place}
+use Rattle.bracket_lex.specs.MarkedLine.{MarkedLine, marks_in, text_end}
+
+-- The tree stands for the marks at the nesting limit and is as long as the text, its items end where the text ends, and
+-- the children of each list are equally high.
+pub record StandsFor (limit : ℕ) (t : Tree) (lines : List MarkedLine) : Type 0 where
+  pub stands : Stands limit 0 (items_of t) start (marks_in lines)
+  pub long : place (length_of t) ≡ text_end lines
+  pub ends : place (behind (items_of t) start) ≡ text_end lines
+  pub even : IsEven t
