@@ -1,7 +1,6 @@
 pub mod LineLists
-pub mod LineWalk
 pub mod MarkedTexts
-pub mod LongestText
+pub mod OneRun
 pub mod OpenSteps
 pub mod RowSteps
 pub mod Stack
@@ -12,9 +11,6 @@ pub mod ClosedRows
 pub mod PairedRows
 pub mod NestedPairs
 pub mod LastOpeners
-pub mod TextsThatStand
-pub mod MarkedColumns
-pub mod MarksInOrder
 pub mod TakenOpeners
 pub mod KeptMarks
 pub mod OpenStacks

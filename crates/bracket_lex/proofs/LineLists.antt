@@ -1,6 +1,6 @@
 -- The last line of a text.
 use Rattle.std.proofs.Common.{◌≡◌, suc, ◌-◌, ◌<◌, List, [], ◌∷◌, length, get_or, refl, arith}
-use Rattle.bracket_lex.specs.MarkedLine.{MarkedLine, last_length}
+use Rattle.bracket_marks.specs.MarkedLine.{MarkedLine, last_length}
 
 pub last_length_is : (lines : List MarkedLine) (d : MarkedLine) → 0 < length lines → last_length lines
     ≡ (get_or lines (length lines - 1) d).length

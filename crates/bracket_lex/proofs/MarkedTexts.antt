@@ -13,7 +13,7 @@ use Rattle.pairing_defs.specs.declared.LineMark.{LineMark}
 use Rattle.pairing_defs.specs.Marks.{every_column, bracket_at, marked, further, marks_from, marks_of, on_line}
 use Rattle.pairing_defs.specs.Marks.{marks_of_lines}
 use Rattle.pairing_defs.specs.Marks.{text_marks}
-use Rattle.bracket_lex.specs.MarkedLine.{MarkedLine, last_length, text_end, marks_in, marked_line}
+use Rattle.bracket_marks.specs.MarkedLine.{MarkedLine, last_length, text_end, marks_in, marked_line}
 
 -- ---- one more line
 line_in-get_or : (lines : List (List ℕ)) (n : ℕ) (d : List ℕ) → n < length lines → line_in lines n ≡ get_or lines n d

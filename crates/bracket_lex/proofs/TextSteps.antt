@@ -5,7 +5,7 @@ use Rattle.pairing_defs.specs.declared.LineMark.{LineMark}
 use Rattle.pairing_defs.specs.declared.Mark.{Mark}
 use Rattle.pairing_defs.specs.Marks.{on_line, marks_of_lines}
 use Rattle.pairing_defs.specs.Pairing.{Open, rows_by, open_by, placed_from, open_after}
-use Rattle.bracket_lex.specs.MarkedLine.{MarkedLine}
+use Rattle.bracket_marks.specs.MarkedLine.{MarkedLine}
 use Rattle.bracket_lex.specs.Pairing.{Progress, open_in}
 
 pub placed_from-append : (limit : ℕ) (state : Open) (xs ys : List Mark)

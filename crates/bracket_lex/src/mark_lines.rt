@@ -1,7 +1,7 @@
 ghost use Rattle.std.specs.Prelude.{◌≡◌, ◌<◌, ◌≤◌, ◌+◌, [], ◌∷◌, ◌++◌, List, length, take, drop, slice_index_or, slice_set, IfOk, OnOk, OnErr};
-ghost use Rattle.bracket_lex.specs.MarkedLine.{MarkedLine, text_end};
+ghost use Rattle.bracket_marks.specs.MarkedLine.{MarkedLine, text_end};
 
-use crate::line_marks::LineMarks;
+use bracket_marks::LineMarks;
 use line_list::{Items, LineList, MOST_ITEMS, Shared};
 use std::alloc::{AllocError, Global};
 use std::marker::Model;

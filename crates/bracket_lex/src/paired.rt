@@ -1,7 +1,7 @@
 ghost use Rattle.std.specs.Prelude.{◌≡◌, ◌<◌, ◌^◌, List, length, IfOk};
 ghost use Rattle.pairing_defs.specs.declared.Row.{Row};
 ghost use Rattle.pairing_defs.specs.Pairing.{paired};
-ghost use Rattle.bracket_lex.specs.MarkedLine.{MarkedLine, marks_in};
+ghost use Rattle.bracket_marks.specs.MarkedLine.{MarkedLine, marks_in};
 
 use crate::mark_lines::MarkLines;
 use crate::open_marks::OpenMarks;

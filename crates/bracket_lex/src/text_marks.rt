@@ -1,12 +1,13 @@
 ghost use Rattle.std.specs.Prelude.{◌≡◌, ◌<◌, ◌^◌, length, map, IfOk};
 ghost use Rattle.text_defs.specs.Text.{lines_of};
 ghost use Rattle.text_defs.specs.Place.{place_of};
-ghost use Rattle.pairing_defs.specs.Marks.{text_marks};
-ghost use Rattle.bracket_lex.specs.MarkedLine.{marked_line, marks_in, text_end};
+ghost use Rattle.pairing_defs.specs.Marks.{every_column, marks_of, text_marks};
+ghost use Rattle.bracket_marks.specs.MarkedLine.{marked_line, marks_in, text_end};
 
-use crate::brackets::Brackets;
 use crate::mark_lines::MarkLines;
-use line_text::Text;
+use bracket_marks::{Brackets, LineMarks};
+use line_text::{Line, Text};
+use scope_defs::{StdType, TypeRun};
 use std::alloc::{AllocError, Global};
 use text_defs::MOST_CHARS;
 
@@ -27,8 +28,27 @@ impl MarkLines {
         prove!(u64::from(text.chars()) <= MOST_CHARS);
         let mut lines = MarkLines::new(alloc);
         for n in 0..text.lines() {
-            lines.push(brackets.marks(alloc, text.line(n), long)?)?;
+            lines.push(marks_of_other(alloc, brackets, text.line(n), long)?)?;
         }
         Ok(lines)
     }
+}
+
+/// The marks of a line that is one token of type Other.
+#[tactic(auto, using(crate::proofs::OneRun::marks_of_other_run))]
+fn marks_of_other(
+    alloc: Global,
+    brackets: &Brackets,
+    line: &Line,
+    long: u32,
+) -> Result<LineMarks, AllocError>
+    requires { length line.now < 2 ^ 32 }
+    ensures marks { IfOk result (λ found. found.marks ≡ marks_of brackets.now long every_column line.now) }
+    ensures length { IfOk result (λ found. found.length ≡ length line.now) }
+{
+    let run = TypeRun {
+        to: line.chars().len() as u32,
+        kind: StdType::Other,
+    };
+    brackets.marks(alloc, line, &[run], long)
 }

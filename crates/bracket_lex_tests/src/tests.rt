@@ -1,5 +1,6 @@
 use bracket_lex::{Brackets, LineMark, LineMarks, MarkLines, Paired, Role, Row};
 use line_text::Text;
+use scope_defs::{StdType, TypeRun};
 use std::alloc::{AllocError, Global};
 use std::test::Fail;
 use text_pos::{Kinds, Pos};
@@ -78,7 +79,11 @@ fn lines_keep_their_marks(rt: HostRuntime) -> Result<(), Fail> {
     let brackets = Brackets::usual(rt.alloc())?;
     let text = Text::from_bytes(rt.alloc(), b"a(]")?;
     assert!(rt; text.lines() == 1);
-    let found = brackets.marks(rt.alloc(), text.line(0), 20000)?;
+    let types = [TypeRun {
+        to: 3,
+        kind: StdType::Other,
+    }];
+    let found = brackets.marks(rt.alloc(), text.line(0), &types, 20000)?;
     let marks = [
         LineMark {
             from: 1,

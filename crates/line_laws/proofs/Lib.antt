@@ -6,3 +6,6 @@ pub mod TurnsTold
 pub mod Stacks
 pub mod Passes
 pub mod Lines
+pub mod Agree
+pub mod TurnsAgree
+pub mod Ways

@@ -1,3 +1,4 @@
 pub mod Matches
 pub mod RunEnds
 pub mod Starts
+pub mod Ways

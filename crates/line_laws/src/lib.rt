@@ -20,6 +20,7 @@ ghost use Rattle.line_defs.specs.Line.{run_over, with_line_feed, at_front, line_
 ghost use Rattle.line_laws.specs.Matches.{LiesIn};
 ghost use Rattle.line_laws.specs.RunEnds.{RunsTo, IsRooted, most_frames_in_captures, IsRunning};
 ghost use Rattle.line_laws.specs.Starts.{IsFit};
+ghost use Rattle.line_laws.specs.Ways.{Way, Leads, tokenised_along};
 
 /// What is found lies in its text, from the place of the search on, and so does what its groups took.
 pub fn matches_lie_in_their_text()
@@ -78,4 +79,13 @@ pub fn starts_count_by_what_is_not_forgotten()
         tokenised machine (bare start) line ≡ tokenised machine start line }
     ensures alike { (machine : Machine) (start other : Start) (line : List ℕ) → bare start ≡ bare other →
         tokenised machine start line ≡ tokenised machine other line }
+{}
+
+/// A line is told by its turns alone: whatever way leads each run over it, and over captures in it, turn by turn to
+/// where it stops, what it gives is what the definition says. The number of turns in the definition is such a way, and
+/// counts for nothing else.
+pub fn turns_alone_tell_a_line()
+    ensures same { (machine : Machine) (way : Way) (start : Start) (line : List ℕ) → Leads machine way →
+        IsFit machine start → tokenised_along way machine start line ≡ tokenised machine start line }
+    ensures leads { (machine : Machine) → Leads machine (run_from machine) }
 {}

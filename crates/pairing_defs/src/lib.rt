@@ -7,6 +7,12 @@ use text_pos::{Chars, Items, Kinds, Name, Pos};
 /// these.
 pub const COLOURS: u32 = 6;
 
+/// The most texts that open or close, of each.
+pub const MOST_KINDS: u64 = 64;
+
+/// The most characters of a text that is a bracket.
+pub const MOST_BRACKET_CHARS: u64 = 32;
+
 /// What a bracket does: it opens a kind, or closes some kinds. A kind is the number of an opener's text.
 #[derive(Clone, Copy, Debug, PartialEq, Eq)]
 pub enum Role {

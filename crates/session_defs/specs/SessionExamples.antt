@@ -8,6 +8,7 @@ use Rattle.std.specs.Fmt.{digits}
 use Rattle.std.specs.Str.Lossy.{utf8_valid_len}
 use lib.Utf8.{encode}
 use Rattle.serde_json.proofs.OnLiterals.{serde_json_on_literals}
+use Rattle.pairing_defs.specs.OnLiterals.{words_on_literals}
 use Rattle.answer_defs.specs.declared.answer.BracketRow.{BracketRow}
 use Rattle.answer_defs.specs.declared.answer.Answer.TheVariants as answer
 use Rattle.answer_defs.specs.declared.answer.Question.TheVariants as question
@@ -160,28 +161,28 @@ words_without_a_limit = refl
 pub session_of_crossing_brackets :
     output_of (limits_with 200) (codes "([)]") (line "{\"brackets\":[0,0]}")
     ≡ line "{\"opened\":1,\"unread\":0}" ++ line "{\"brackets\":[[0,0,1,0,0,0],[0,1,2,1,0,6],[0,2,3,0,0,0],[0,3,4,0,0,6]]}"
-unfolding serde_json_on_literals chars is_utf8 utf8_valid_len encode digits
+unfolding serde_json_on_literals chars is_utf8 utf8_valid_len encode digits words_on_literals
 session_of_crossing_brackets = refl
 
 -- an empty file has one line and no brackets; without a script there is the open reply alone
 pub session_of_an_empty_file :
     (output_of (limits_with 200) [] (line "{\"brackets\":[0,0]}") ≡ line "{\"opened\":1,\"unread\":0}" ++ line "{\"brackets\":[]}")
     × (output_of (limits_with 200) [] [] ≡ line "{\"opened\":1,\"unread\":0}")
-unfolding serde_json_on_literals chars is_utf8 utf8_valid_len encode digits
+unfolding serde_json_on_literals chars is_utf8 utf8_valid_len encode digits words_on_literals
 session_of_an_empty_file = (refl, refl)
 
 -- an unexpected closer has colour 6; a range may hold a part of the lines; a turn changes nothing
 pub session_of_an_unexpected_closer :
     output_of (limits_with 200) (10 ∷ codes "a ) b") (line "{\"brackets\":[0,1]}" ++ line "{\"turn\":5}" ++ line "{\"brackets\":[0,0]}")
     ≡ line "{\"opened\":2,\"unread\":0}" ++ line "{\"brackets\":[[1,2,3,0,0,6]]}" ++ line "{\"turned\":true}" ++ line "{\"brackets\":[]}"
-unfolding serde_json_on_literals chars is_utf8 utf8_valid_len encode digits
+unfolding serde_json_on_literals chars is_utf8 utf8_valid_len encode digits words_on_literals
 session_of_an_unexpected_closer = refl
 
 -- an opener at the nesting limit has no row, and the closer that it would have had closes another
 pub session_at_the_nesting_limit :
     output_of (limits_with 2) (codes "((()))") (line "{\"brackets\":[0,0]}")
     ≡ line "{\"opened\":1,\"unread\":0}" ++ line "{\"brackets\":[[0,0,1,0,0,0],[0,1,2,1,1,1],[0,3,4,1,1,1],[0,4,5,0,0,0],[0,5,6,0,0,6]]}"
-unfolding serde_json_on_literals chars is_utf8 utf8_valid_len encode digits
+unfolding serde_json_on_literals chars is_utf8 utf8_valid_len encode digits words_on_literals
 session_at_the_nesting_limit = refl
 
 -- each line end ends a line; a refusal changes nothing; an empty line of the script has a reply, and so have
@@ -189,21 +190,21 @@ session_at_the_nesting_limit = refl
 pub session_of_four_lines :
     output_of (limits_with 200) (97 ∷ 13 ∷ 10 ∷ 98 ∷ 13 ∷ 99 ∷ 10 ∷ 100 ∷ []) (line "{\"line\":4}" ++ line "" ++ line "[]" ++ codes "{\"line\":1}")
     ≡ line "{\"opened\":4,\"unread\":0}" ++ line "{\"refused\":\"line\"}" ++ line "{\"refused\":\"json\"}" ++ line "{\"refused\":\"command\"}" ++ line "{\"line\":\"b\"}"
-unfolding serde_json_on_literals chars is_utf8 utf8_valid_len encode digits
+unfolding serde_json_on_literals chars is_utf8 utf8_valid_len encode digits words_on_literals
 session_of_four_lines = refl
 
 -- while more may come, bytes behind the last LF have no reply; of blanks without an LF there is the open reply alone
 pub unfinished_line_has_no_reply :
     (written_so_far (limits_with 200) (codes "a") (line "{\"line\":0}" ++ codes "{\"line\":0}") ≡ line "{\"opened\":1,\"unread\":0}" ++ line "{\"line\":\"a\"}")
     × (written_so_far (limits_with 200) (codes "a") (replicate 100 32) ≡ line "{\"opened\":1,\"unread\":0}")
-unfolding serde_json_on_literals chars is_utf8 utf8_valid_len encode digits
+unfolding serde_json_on_literals chars is_utf8 utf8_valid_len encode digits words_on_literals
 unfinished_line_has_no_reply = (refl, refl)
 
 -- a range is refused where it ends before it begins or past the last line
 pub ranges_that_are_refused :
     output_of (limits_with 200) (line "(") (line "{\"brackets\":[1,0]}" ++ line "{\"brackets\":[0,2]}" ++ line "{\"brackets\":[0,1]}")
     ≡ line "{\"opened\":2,\"unread\":0}" ++ line "{\"refused\":\"line\"}" ++ line "{\"refused\":\"line\"}" ++ line "{\"brackets\":[[0,0,1,0,0,6]]}"
-unfolding serde_json_on_literals chars is_utf8 utf8_valid_len encode digits
+unfolding serde_json_on_literals chars is_utf8 utf8_valid_len encode digits words_on_literals
 ranges_that_are_refused = refl
 
 -- a range has at most 4,096 lines, ends at its start or later, and within the text
@@ -215,17 +216,19 @@ ranges = refl
 pub partners_and_inner_ends :
     (map (λ r. r.partner) (rows_of (usual (limits_with 200)) (codes "([)]{")) ≡ Some 2 ∷ None ∷ Some 0 ∷ None ∷ None ∷ [])
     × (map (λ r. r.inner.col) (rows_of (usual (limits_with 200)) (codes "([)]{")) ≡ 2 ∷ 2 ∷ 2 ∷ 3 ∷ 5 ∷ [])
+unfolding words_on_literals
 partners_and_inner_ends = (refl, refl)
 
 -- an opener at the limit has no row's number, so the closer behind it is row 1
 pub partners_at_the_nesting_limit : map (λ r. r.partner) (rows_of (usual (limits_with 1)) (codes "([)]")) ≡ Some 1 ∷ Some 0 ∷ None ∷ []
+unfolding words_on_literals
 partners_at_the_nesting_limit = refl
 
 -- a line of as many characters as the limit has no brackets; one with a character less has
 pub session_of_a_long_line :
     output_of (record { nesting = 200; budget = 100000; long = 4; tab = 4 }) (line "(aa" ++ codes ")aaa") (line "{\"brackets\":[0,1]}")
     ≡ line "{\"opened\":2,\"unread\":0}" ++ line "{\"brackets\":[[0,0,1,0,0,6]]}"
-unfolding serde_json_on_literals chars is_utf8 utf8_valid_len encode digits
+unfolding serde_json_on_literals chars is_utf8 utf8_valid_len encode digits words_on_literals
 session_of_a_long_line = refl
 
 -- the byte 255 is no text, an empty file is one
@@ -237,5 +240,5 @@ files_that_are_accepted = refl
 pub edits_of_a_session :
     output_of (limits_with 200) (codes "abc") (line "{\"edit\":[[0,0,0,1,\"x\"],[0,2,0,3,\"yy\"]]}" ++ line "{\"edit\":[[0,2,0,3,\"q\"],[0,0,0,1,\"q\"]]}" ++ line "{\"edit\":[]}" ++ line "{\"line\":0}")
     ≡ line "{\"opened\":1,\"unread\":0}" ++ line "{\"edited\":1}" ++ line "{\"refused\":\"order\"}" ++ line "{\"edited\":1}" ++ line "{\"line\":\"xbyy\"}"
-unfolding serde_json_on_literals chars is_utf8 utf8_valid_len encode digits
+unfolding serde_json_on_literals chars is_utf8 utf8_valid_len encode digits words_on_literals
 edits_of_a_session = refl

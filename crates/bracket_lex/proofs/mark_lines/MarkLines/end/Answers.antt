@@ -1,5 +1,5 @@
 use Rattle.std.proofs.Common.{◌≡◌, ◌-◌, ◌∙◌, refl, sym, ap, get_or, length}
-use Rattle.bracket_lex.specs.MarkedLine.{last_length}
+use Rattle.bracket_marks.specs.MarkedLine.{last_length}
 use Rattle.bracket_lex.proofs.LineLists.{last_length_is}
 use Rattle.bracket_lex.proofs.mark_lines.MarkLines.end.Goals as goal
 

@@ -1,7 +1,7 @@
 use Rattle.std.proofs.Common.{◌≡◌, ◌+◌, ◌≤◌, ◌++◌, length, map}
 use Rattle.pairing_defs.specs.Marks.{marks_of_lines}
 use Rattle.pairing_defs.specs.Pairing.{placed_from, nothing_open}
-use Rattle.bracket_lex.specs.MarkedLine.{marks_in}
+use Rattle.bracket_marks.specs.MarkedLine.{marks_in}
 use Rattle.bracket_lex.specs.Pairing.{open_in}
 use Rattle.bracket_lex.proofs.paired.Paired.of.Given as goal
 

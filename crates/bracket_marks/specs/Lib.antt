@@ -1,0 +1,4 @@
+pub mod Longest
+pub mod MarkLaws
+pub mod MarkedLine
+pub mod PairViews
