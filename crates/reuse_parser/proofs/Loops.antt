@@ -10,7 +10,8 @@ use Rattle.pairing_defs.specs.declared.Mark.{Mark}
 use Rattle.tree_defs.specs.Tree.{Tree, Nothing, Text, Bracket, Lone, Pair, Two, Three, depth}
 use Rattle.tree_defs.specs.Shape.{all_leaves, leaves_of, all_items, total, EndsFit, Fits, length_of, RunsFit}
 use Rattle.tree_defs.specs.Items.{items_then, end}
-use Rattle.tree_defs.proofs.Lengths.{items_append, leaf_items, total_append, total_leaves, ends_append, ends_runs, plus_none}
+use Rattle.tree_defs.proofs.Lengths.{items_append, leaf_items, total_append, total_leaves, ends_append, ends_runs}
+use Rattle.tree_defs.proofs.Lengths.{plus_none}
 use Rattle.reuse_parser.specs.declared.place.Around.{Around}
 use Rattle.reuse_parser.specs.Parsing.{Leads, Follow, Grows, Listed, Stopped, front_has}
 use Rattle.reuse_parser.specs.Parsing as parsing
@@ -47,7 +48,8 @@ parsed_first a at ms room follow = record {
 }
 
 -- ---- one node more
-leaves_more : (ts : List Tree) (t : Tree) → all_leaves ts ≡ ts → leaves_of t ≡ t ∷ [] → all_leaves (ts ++ t ∷ []) ≡ ts ++ t ∷ []
+leaves_more : (ts : List Tree) (t : Tree) → all_leaves ts ≡ ts → leaves_of t ≡ t ∷ []
+    → all_leaves (ts ++ t ∷ []) ≡ ts ++ t ∷ []
 leaves_more ts t are leaf = leaves_behind ts (t ∷ []) ∙ ap (λ l. l ++ (leaves_of t ++ [])) are
     ∙ ap (λ l. ts ++ (l ++ [])) leaf
   where
@@ -69,7 +71,8 @@ deepest_more [] t level limit h k = omega (arith, h, k)
 deepest_more (x ∷ ts) t level limit h k =
     let more = deepest_more ts t level limit (omega (arith, h)) k in omega (arith, more, h)
 
-pub parsed_more : (a : Around) (at : Length) (ms : List Mark) (ts : List Tree) (to : Length) (rest : List Mark) (t : Tree)
+pub parsed_more : (a : Around) (at : Length) (ms : List Mark) (ts : List Tree) (to : Length) (rest : List Mark)
+    (t : Tree)
     (behind : Length) (left : List Mark) → Parsed a at ms ts to rest → Grows a to rest t behind left → Fits behind
     → Parsed a at ms (ts ++ t ∷ []) behind left
 parsed_more a at ms ts to rest t behind left p g fits = record {
@@ -85,7 +88,8 @@ parsed_more a at ms ts to rest t behind left p g fits = record {
       let inner = g.leads its more has stop h fine in
       let whole = p.leads (items_then t its) (g.done ++ more) has stop (λ s. absurd (g.more s)) inner in
       subst (λ x. parsing.Fine a has stop x at ((p.done ++ g.done) ++ more)) (sym (items_append ts (t ∷ []) its))
-      (subst (λ x. parsing.Fine a has stop (all_items ts (items_then t its)) at x) (sym (append_assoc p.done g.done more)) whole);
+      (subst (λ x. parsing.Fine a has stop (all_items ts (items_then t its)) at x) (sym
+      (append_assoc p.done g.done more)) whole);
 }
 
 -- ---- the whole list
@@ -104,13 +108,15 @@ depth_leaves (Bracket len kind) = refl
 depth_leaves (Lone len kinds) = refl
 depth_leaves (Pair opener kind inside closer) = omega arith
 depth_leaves (Two a b) =
-    let h = depth_leaves a in let k = depth_leaves b in let d = deepest_of (leaves_of a) (leaves_of b) in omega (arith, h, k, d)
+    let h = depth_leaves a in let k = depth_leaves b in let d = deepest_of (leaves_of a) (leaves_of b) in omega
+    (arith, h, k, d)
 depth_leaves (Three a b c) =
     let h = depth_leaves a in let k = depth_leaves b in let m = depth_leaves c in
     let d = deepest_of (leaves_of a) (leaves_of b ++ leaves_of c) in
     let e = deepest_of (leaves_of b) (leaves_of c) in omega (arith, h, k, m, d, e)
 
-pub parsed_whole : (a : Around) (at : Length) (ms : List Mark) (ts : List Tree) (to : Length) (rest : List Mark) (t : Tree)
+pub parsed_whole : (a : Around) (at : Length) (ms : List Mark) (ts : List Tree) (to : Length) (rest : List Mark)
+    (t : Tree)
     → Parsed a at ms ts to rest → Stopped a to rest → leaves_of t ≡ all_leaves ts → Listed a at ms t to rest
 parsed_whole a at ms ts to rest t p stopped same = record {
   done = p.done;

@@ -1,5 +1,6 @@
 -- Marks, their places and what is around them.
-use Rattle.std.proofs.Common.{◌≡◌, ℕ, ◌+◌, ◌*◌, ◌<◌, ◌≤◌, ◌==◌, ◌&&◌, ◌||◌, nat_lt, if◌then◌else◌, inl, inr, List, length}
+use Rattle.std.proofs.Common.{◌≡◌, ℕ, ◌+◌, ◌*◌, ◌<◌, ◌≤◌, ◌==◌, ◌&&◌, ◌||◌, nat_lt, if◌then◌else◌, inl, inr, List}
+use Rattle.std.proofs.Common.{length}
 use Rattle.std.proofs.Common.{Bool, true, false, IsTrue, refl, arith}
 use Rattle.std.proofs.lemmas.Bool.Decides.{nat_tests}
 use Rattle.text_pos.specs.declared.length.Length.{Length}
@@ -27,7 +28,8 @@ one_or_none true = omega arith
 one_or_none false = omega arith
 
 -- where a mark is taken, less is left
-pub less_behind : (last at to : Length) (ms rest : List Mark) → length rest < length ms → work last to rest < work last at ms
+pub less_behind : (last at to : Length) (ms rest : List Mark) → length rest < length ms
+    → work last to rest < work last at ms
 less_behind last at to ms rest fewer =
     let next = next_start last rest in
     let h = one_or_none (nat_lt to.lines next.lines || (to.lines == next.lines && nat_lt to.cols next.cols)) in
@@ -35,7 +37,8 @@ less_behind last at to ms rest fewer =
 
 -- where a text is taken, less is left
 pub less_at_next : (n : ℕ) (at next : Length) → IsLess at next
-    → 2 * n + (if nat_lt next.lines next.lines || (next.lines == next.lines && nat_lt next.cols next.cols) then 1 else 0)
+    → 2 * n + (if nat_lt next.lines next.lines || (next.lines == next.lines && nat_lt next.cols next.cols) then 1 else
+    0)
     < 2 * n + (if nat_lt at.lines next.lines || (at.lines == next.lines && nat_lt at.cols next.cols) then 1 else 0)
 less_at_next n at next (inl h) = grind (arith, nat_tests)
 less_at_next n at next (inr (h, k)) = grind (arith, nat_tests)

@@ -1,5 +1,6 @@
 -- A pair grows the list that it is put in.
-use Rattle.std.proofs.Common.{◌≡◌, ℕ, ◌+◌, ◌<◌, ◌==◌, ◌&&◌, ◌||◌, List, [], ◌∷◌, ◌++◌, length, Bool, true, false, IsTrue, Some, None}
+use Rattle.std.proofs.Common.{◌≡◌, ℕ, ◌+◌, ◌<◌, ◌==◌, ◌&&◌, ◌||◌, List, [], ◌∷◌, ◌++◌, length, Bool, true, false}
+use Rattle.std.proofs.Common.{IsTrue, Some, None}
 use Rattle.std.proofs.Common.{refl, sym, ap, ◌∙◌, subst, arith, append_assoc, append-nil}
 use Rattle.std.proofs.lemmas.List.{length-append}
 use Rattle.text_pos.specs.declared.length.Length.{Length}
@@ -16,7 +17,8 @@ use Rattle.tree_defs.specs.Items.{Items, pair, unclosed, items_then, behind, mis
 use Rattle.tree_defs.specs.Items as items
 use Rattle.tree_defs.proofs.Lengths.{plus_assoc}
 use Rattle.reuse_parser.specs.declared.place.Around.{Around}
-use Rattle.reuse_parser.specs.Parsing.{start_of, end_of, size_of, IsWithin, IsFront, Follow, Stopped, NoneBy, Fine, Nothing}
+use Rattle.reuse_parser.specs.Parsing.{start_of, end_of, size_of, IsWithin, IsFront, Follow, Stopped, NoneBy, Fine}
+use Rattle.reuse_parser.specs.Parsing.{Nothing}
 use Rattle.reuse_parser.specs.Parsing.{Grows, Listed, role_has, front_has}
 use Rattle.reuse_parser.proofs.Marks.{size_ends, is_at, less_behind}
 use Rattle.reuse_parser.proofs.Single.{not_stopped}
@@ -58,7 +60,8 @@ none_also : (has other : ℕ → Bool) (es : List Entry) → ((k : ℕ) → othe
 none_also has other [] same none = tt
 none_also has other (e ∷ es) same none = (same e.kind ∙ none.0, none_also has other es same none.1)
 
-none_more : (has : ℕ → Bool) (es : List Entry) (e : Entry) → NoneBy has es → has e.kind ≡ false → NoneBy has (es ++ e ∷ [])
+none_more : (has : ℕ → Bool) (es : List Entry) (e : Entry) → NoneBy has es → has e.kind ≡ false
+    → NoneBy has (es ++ e ∷ [])
 none_more has [] e none last = (last, tt)
 none_more has (x ∷ es) e none last = (none.0, none_more has es e none.1 last)
 
@@ -66,11 +69,13 @@ none_more has (x ∷ es) e none last = (none.0, none_more has es e none.1 last)
 fewer : (m : Mark) (ms done rest : List Mark) → ms ≡ done ++ rest → length rest < length (m ∷ ms)
 fewer m ms done rest are = let h = ap length are ∙ length-append done rest in omega (arith, h)
 
-opens : (a : Around) (m : Mark) (kind : ℕ) (rest : List Mark) → m.role ≡ Opener kind → ¬ Stopped a (start_of m) (m ∷ rest)
+opens : (a : Around) (m : Mark) (kind : ℕ) (rest : List Mark) → m.role ≡ Opener kind
+    → ¬ Stopped a (start_of m) (m ∷ rest)
 opens a m kind rest role = not_stopped a m rest (λ k. ap (λ r. role_has r k) role)
 
 -- ---- a pair with its closer
-pair_long : (m c : Mark) (inside : Length) (to : Length) → m.at.col < m.to → c.at.col < c.to → plus (end_of m) inside ≡ to
+pair_long : (m c : Mark) (inside : Length) (to : Length) → m.at.col < m.to → c.at.col < c.to
+    → plus (end_of m) inside ≡ to
     → to ≡ start_of c → plus (start_of m) (plus (plus (size_of m) inside) (size_of c)) ≡ end_of c
 pair_long m c inside to some c_some long at =
     sym (plus_assoc (start_of m) (plus (size_of m) inside) (size_of c))
@@ -87,7 +92,8 @@ closed_by : (c : Mark) (kind : ℕ) (r : Role) → c.role ≡ r → role_has r k
 closed_by c kind (Opener k) is has = cc
 closed_by c kind (Closer kinds) is has = record { kinds = kinds; role = is; takes = has }
 
-closed_grows : (a b : Around) (m : Mark) (kind : ℕ) (rest : List Mark) (t : Tree) (to : Length) (c : Mark) (more : List Mark)
+closed_grows : (a b : Around) (m : Mark) (kind : ℕ) (rest : List Mark) (t : Tree) (to : Length) (c : Mark)
+    (more : List Mark)
     → a.level < a.limit → m.role ≡ Opener kind → Follow (start_of m) a.end (m ∷ rest) → IsWithin a kind b
     → Listed b (end_of m) rest t to (c ∷ more) → Closed c kind
     → Grows a (start_of m) (m ∷ rest) (Pair (size_of m) kind t (Some (size_of c))) (end_of c) more
@@ -132,7 +138,8 @@ closed_grows a b m kind rest t to c more room role follow w l closed = record {
           rest = fine.stands;
         };
         ends = fine.ends;
-        apart = λ k t. both_false (missed_in inside k) (missed_in its k) (within.apart k (above_kept a b kind k w t)) (fine.apart k t);
+        apart = λ k t. both_false (missed_in inside k) (missed_in its k) (within.apart k (above_kept a b kind k w t))
+            (fine.apart k t);
         passes = λ n. fine.passes (n + 1 + items.rows_in inside + 1);
       };
 }
@@ -146,11 +153,13 @@ pub pair_grows : (a b : Around) (m : Mark) (kind : ℕ) (rest : List Mark) (t : 
     → IsWithin a kind b → Listed b (end_of m) rest t to left → IsFront kind left c more
     → Grows a (start_of m) (m ∷ rest) (Pair (size_of m) kind t (Some (size_of c))) (end_of c) more
 pair_grows a b m kind rest t to left c more room role follow w l front =
-    closed_grows a b m kind rest t to c more room role follow w (subst (λ ms. Listed b (end_of m) rest t to ms) front.are l)
+    closed_grows a b m kind rest t to c more room role follow w (subst (λ ms. Listed b
+    (end_of m) rest t to ms) front.are l)
     (closed_by c kind c.role refl front.has)
 
 -- ---- a pair without closer
-left_stopped : (a b : Around) (kind : ℕ) (to : Length) (left : List Mark) → IsWithin a kind b → front_has left kind ≡ false
+left_stopped : (a b : Around) (kind : ℕ) (to : Length) (left : List Mark) → IsWithin a kind b
+    → front_has left kind ≡ false
     → Stopped b to left → Stopped a to left
 left_stopped a b kind to [] w none stopped = stopped ∙ w.last
 left_stopped a b kind to (c ∷ more) w none stopped =
@@ -181,7 +190,8 @@ left_grows a b m kind rest t to left room role follow w l none = record {
   done = m ∷ l.done;
   are = ap (λ ms. m ∷ ms) l.are;
   leaf = refl;
-  long = sym (plus_assoc (start_of m) (size_of m) (length_of t)) ∙ ap (λ p. plus p (length_of t)) (size_ends m follow.1) ∙ l.long;
+  long = sym (plus_assoc (start_of m) (size_of m) (length_of t)) ∙ ap (λ p. plus p (length_of t))
+      (size_ends m follow.1) ∙ l.long;
   shallow = omega (arith, l.shallow, w.level, w.limit);
   follow = subst (λ p. Follow to p left) w.last l.follow;
   less = less_behind a.end (start_of m) to (m ∷ rest) left (fewer m rest l.done left l.are);

@@ -1,5 +1,6 @@
 -- A text, an opener that is met at the limit and an unexpected closer grow the list that they are put in.
-use Rattle.std.proofs.Common.{◌≡◌, ℕ, ◌+◌, ◌≤◌, ◌&&◌, ◌||◌, List, [], ◌∷◌, length, true, false, IsTrue, refl, sym, subst, arith}
+use Rattle.std.proofs.Common.{◌≡◌, ℕ, ◌+◌, ◌≤◌, ◌&&◌, ◌||◌, List, [], ◌∷◌, length, true, false, IsTrue, refl, sym}
+use Rattle.std.proofs.Common.{subst, arith}
 use Rattle.text_pos.specs.declared.length.Length.{Length}
 use Rattle.text_pos.specs.declared.kinds.Kinds.{Kinds}
 use Rattle.text_pos.specs.KindSet.{has_kind}
@@ -113,7 +114,14 @@ lone_grows a m kinds rest room role apart follow = record {
       let fine : Fine a has stop its (plus (start_of m) (size_of m)) more =
       subst (λ p. Fine a has stop its p more) (sym (size_ends m follow.1)) fine0 in
       record {
-        stands = record { mark = m; more = more; are = refl; place = is_at m follow.1; role = role; rest = fine.stands };
+        stands = record {
+          mark = m;
+          more = more;
+          are = refl;
+          place = is_at m follow.1;
+          role = role;
+          rest = fine.stands;
+        };
         ends = fine.ends;
         apart = λ k t. subst (λ b. (b || missed_in its k) ≡ false)
             (sym (not_both (has_kind kinds k) (has_kind a.above k) (λ both. apart (k, both)) t)) (fine.apart k t);

@@ -1,5 +1,6 @@
 -- The marks of a source, and where they lie in its lines.
-use Rattle.std.proofs.Common.{◌≡◌, ℕ, ◌+◌, ◌<◌, ◌≤◌, ◌&&◌, inl, inr, List, [], ◌∷◌, ◌++◌, length, map, Bool, true, false, IsTrue, Option, Some, None}
+use Rattle.std.proofs.Common.{◌≡◌, ℕ, ◌+◌, ◌<◌, ◌≤◌, ◌&&◌, inl, inr, List, [], ◌∷◌, ◌++◌, length, map, Bool, true}
+use Rattle.std.proofs.Common.{false, IsTrue, Option, Some, None}
 use Rattle.bracket_ast.specs.Shapes.{or_nothing, SoundInside}
 use Rattle.std.proofs.Common.{refl, sym, ap, ◌∙◌, subst, arith, append-nil}
 use Rattle.std.proofs.lemmas.Bool.Decides.{nat_tests}
@@ -46,11 +47,13 @@ all_marks s marked at = ap (λ p. source.marks_from p (marks_in s.lines)) at
     ∙ all_ahead first_place (marks_in s.lines) (all_in_order s.lines marked)
 
 -- ---- the marks of lines follow each other
-further : (n a b : ℕ) (p : Length) → a ≤ b → ¬ IsLess (record { lines = n; cols = a }) p → ¬ IsLess (record { lines = n; cols = b }) p
+further : (n a b : ℕ) (p : Length) → a ≤ b → ¬ IsLess (record { lines = n; cols = a }) p
+    → ¬ IsLess (record { lines = n; cols = b }) p
 further n a b p h none (inl k) = none (inl k)
 further n a b p h none (inr (e, k)) = none (inr (e, omega (arith, h, k)))
 
-next_line : (n a : ℕ) (p : Length) → ¬ IsLess (record { lines = n; cols = a }) p → ¬ IsLess (record { lines = n + 1; cols = 0 }) p
+next_line : (n a : ℕ) (p : Length) → ¬ IsLess (record { lines = n; cols = a }) p
+    → ¬ IsLess (record { lines = n + 1; cols = 0 }) p
 next_line n a p none (inl k) = none (inl (omega (arith, k)))
 next_line n a p none (inr (e, k)) = none (inl (omega (arith, e)))
 
@@ -75,7 +78,8 @@ lines_follow : (n : ℕ) (line : MarkedLine) (lines : List MarkedLine) (p : Leng
     → Follow p (record { lines = n + length lines; cols = last_length (line ∷ lines) })
     (marks_of_lines n (map (λ l. l.marks) (line ∷ lines)))
 lines_follow n line [] p are none = line_follows n 0 line.length line.marks p _ [] are.0 none
-    (λ q h. subst (λ e. ¬ IsLess e q) (same_length (record { lines = n; cols = line.length }) (record { lines = n + 0; cols = line.length }) (omega arith) refl) h)
+    (λ q h. subst (λ e. ¬ IsLess e q) (same_length (record { lines = n; cols = line.length })
+    (record { lines = n + 0; cols = line.length }) (omega arith) refl) h)
 lines_follow n line (next ∷ lines) p are none = line_follows n 0 line.length line.marks p _
     (marks_of_lines (n + 1) (map (λ l. l.marks) (next ∷ lines))) are.0 none
     (λ q h. subst (λ e. Follow q e (marks_of_lines (n + 1) (map (λ l. l.marks) (next ∷ lines))))
@@ -83,7 +87,8 @@ lines_follow n line (next ∷ lines) p are none = line_follows n 0 line.length l
     (record { lines = n + length (next ∷ lines); cols = last_length (next ∷ lines) }) (omega arith) refl)
     (lines_follow (n + 1) next lines q are.1 (next_line n line.length q h)))
 
-pub marks_follow : (lines : List MarkedLine) (last : Length) → AreMarked lines → 0 < length lines → place last ≡ text_end lines
+pub marks_follow : (lines : List MarkedLine) (last : Length) → AreMarked lines → 0 < length lines
+    → place last ≡ text_end lines
     → Follow start last (marks_in lines)
 marks_follow [] last are some is = absurd (omega (arith, some))
 marks_follow (line ∷ lines) last are some is =
@@ -98,7 +103,8 @@ pub last_within : (p : Pos) (last : Length) (ms : List Mark) → Follow (record 
 last_within p last [] follow = follow
 last_within p last (m ∷ ms) follow = last_within (source.end_of m) last ms follow.3
 
-pub not_before : (p q : Pos) → ¬ IsLess (record { lines = p.line; cols = p.col }) (record { lines = q.line; cols = q.col })
+pub not_before : (p q : Pos) → ¬ IsLess (record { lines = p.line; cols = p.col })
+    (record { lines = q.line; cols = q.col })
     → is_before p q ≡ false
 not_before p q none = by (is_before p q) refl
   where
@@ -106,7 +112,8 @@ not_before p q none = by (is_before p q) refl
     by false h = h
     by true h = absurd (none (before h))
       where
-        before : is_before p q ≡ true → IsLess (record { lines = p.line; cols = p.col }) (record { lines = q.line; cols = q.col })
+        before : is_before p q ≡ true → IsLess (record { lines = p.line; cols = p.col })
+            (record { lines = q.line; cols = q.col })
         before h = grind (arith, nat_tests)
 
 -- ---- the whole tree
@@ -117,10 +124,12 @@ nothing_open false c h t = cc
 
 pub stands_for : (above : Kinds) (limit : ℕ) (last : Length) (t : Tree) (to : Length) (rest : List Mark)
     (lines : List MarkedLine) → ((k : ℕ) → has_kind above k ≡ false) → place last ≡ text_end lines
-    → Listed (record { above = above; level = 0; limit = limit; end = last }) start (marks_in lines) t to rest → IsEven t
+    → Listed (record { above = above; level = 0; limit = limit; end = last }) start (marks_in lines) t to rest
+    → IsEven t
     → StandsFor limit t lines
 stands_for above limit last t to (m ∷ rest) lines none is l even =
-    absurd (nothing_open (role_has m.role l.stopped.1.0) (has_kind above l.stopped.1.0) (none l.stopped.1.0) l.stopped.1.1)
+    absurd (nothing_open (role_has m.role l.stopped.1.0) (has_kind above l.stopped.1.0)
+    (none l.stopped.1.0) l.stopped.1.1)
 stands_for above limit last t to [] lines none is l even = record {
   stands = subst (λ ms. Stands limit 0 (items_of t) start ms) (sym (l.are ∙ append-nil l.done)) l.fine.stands;
   long = ap place (sym (none_plus (length_of t)) ∙ l.long ∙ l.stopped) ∙ is;

@@ -85,7 +85,8 @@ NoneBy has (e ∷ es) = (has e.kind ≡ false) × NoneBy has es
 
 -- items stand for marks up to a place, none of their unexpected closers closes a kind that is open around them, and
 -- none that they leave open is of such a kind
-pub record Fine (a : Around) (has : ℕ → Bool) (stop : Length) (its : Items) (at : Length) (ms : List Mark) : Type 0 where
+pub record Fine (a : Around) (has : ℕ → Bool) (stop : Length) (its : Items) (at : Length)
+    (ms : List Mark) : Type 0 where
   pub stands : Stands a.limit a.level its at ms
   pub ends : behind its at ≡ stop
   pub apart : (k : ℕ) → IsTrue (has_kind a.above k) → missed_in its k ≡ false
@@ -107,7 +108,8 @@ Leads a before at done to rest = (its : Items) (ms : List Mark) (has : ℕ → B
 abbrev pub work : Length → Length → List Mark → ℕ
 work last at ms =
     let next = next_start last ms in
-    2 * length ms + (if nat_lt at.lines next.lines || (at.lines == next.lines && nat_lt at.cols next.cols) then 1 else 0)
+    2 * length ms + (if nat_lt at.lines next.lines || (at.lines == next.lines && nat_lt at.cols next.cols) then 1 else
+    0)
 
 pub record Grows (a : Around) (at : Length) (ms : List Mark) (node : tree.Tree) (to : Length) (rest : List Mark) : Type
     0 where

@@ -14,7 +14,8 @@ abbrev pub decreases-parse_pair : goal.decreases-parse_pair
 decreases-parse_pair l = 3 * length l.rest.now + 3
 
 abbrev pub invariant-parse_list-loop-nodes : goal.invariant-parse_list-loop-nodes
-invariant-parse_list-loop-nodes l = Parsed l.around l.fn.from.at l.fn.from.marks.now l.nodes.items l.place.at l.place.marks.now
+invariant-parse_list-loop-nodes l = Parsed l.around l.fn.from.at l.fn.from.marks.now l.nodes.items l.place.at
+    l.place.marks.now
 
 abbrev pub decreases-parse_list-loop-nodes : goal.decreases-parse_list-loop-nodes
 decreases-parse_list-loop-nodes l = work l.around.end l.place.at l.place.marks.now
