@@ -12,7 +12,7 @@ use Rattle.text_pos.specs.Lengths.{IsLess}
 use Rattle.pairing_defs.specs.declared.LineMark.{LineMark}
 use Rattle.pairing_defs.specs.declared.Mark.{Mark}
 use Rattle.pairing_defs.specs.Marks.{on_line, marks_of_lines}
-use Rattle.bracket_lex.specs.MarkedLine.{MarkedLine, marks_in, text_end, last_length}
+use Rattle.bracket_marks.specs.MarkedLine.{MarkedLine, marks_in, text_end, last_length}
 use Rattle.mark_source.specs.Source.{Source, ahead, first, behind, is_before, AreMarked, RiseIn}
 use Rattle.mark_source.specs.Source as source
 use Rattle.mark_source.proofs.Ahead.{next_ahead, all_ahead}

@@ -4,7 +4,7 @@ use Rattle.tree_defs.specs.Tree.{Tree}
 use Rattle.tree_defs.specs.Shape.{length_of, IsEven}
 use Rattle.tree_defs.specs.Items.{items_of, behind, Stands}
 use Rattle.tree_defs.specs.Rows.{start, place}
-use Rattle.bracket_lex.specs.MarkedLine.{MarkedLine, marks_in, text_end}
+use Rattle.bracket_marks.specs.MarkedLine.{MarkedLine, marks_in, text_end}
 
 -- The tree stands for the marks at the nesting limit and is as long as the text, its items end where the text ends, and
 -- the children of each list are equally high.

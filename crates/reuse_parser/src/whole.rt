@@ -1,5 +1,5 @@
 ghost use Rattle.std.specs.Prelude.{◌≡◌, ◌+◌, ◌≤◌, ◌<◌, length, IfOk};
-ghost use Rattle.bracket_lex.specs.MarkedLine.{marks_in, text_end};
+ghost use Rattle.bracket_marks.specs.MarkedLine.{marks_in, text_end};
 ghost use Rattle.bracket_ast.specs.Shapes.{or_nothing, SoundInside};
 ghost use Rattle.reuse_parser.specs.Whole.{StandsFor};
 

@@ -1,5 +1,5 @@
 use Rattle.std.proofs.Common.{◌≡◌, ap, ◌∙◌, subst, arith, length}
-use Rattle.bracket_lex.specs.MarkedLine.{MarkedLine, marks_in, text_end}
+use Rattle.bracket_marks.specs.MarkedLine.{MarkedLine, marks_in, text_end}
 use Rattle.std.proofs.Common.{List}
 use Rattle.text_pos.specs.declared.length.Length.{Length}
 use Rattle.text_pos.specs.declared.length.Pos.{Pos}

@@ -1,0 +1,11 @@
+//! The search of a run over a line: what the patterns of a frame find from a place on.
+#![tactic(auto)]
+
+mod choices;
+pub mod find;
+mod late;
+mod lists;
+pub mod searcher;
+
+pub use find::{Find, Match, Of};
+pub use searcher::Searcher;
