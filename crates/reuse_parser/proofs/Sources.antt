@@ -20,7 +20,9 @@ use Rattle.mark_source.proofs.Places.{all_in_order}
 use Rattle.tree_defs.specs.Tree.{Tree}
 use Rattle.tree_defs.specs.Shape.{length_of, IsEven}
 use Rattle.tree_defs.specs.Items.{items_of, Stands}
-use Rattle.tree_defs.specs.Rows.{start, place}
+use Rattle.tree_defs.specs.Rows.{start, place, tree_rows, AreFull}
+use Rattle.tree_defs.proofs.FullRows.{row_law}
+use Rattle.pairing_defs.specs.Pairing.{paired}
 use Rattle.tree_defs.proofs.Lengths.{same_length, none_plus}
 use Rattle.reuse_parser.specs.Parsing.{Follow, Listed, last_place, role_has}
 use Rattle.reuse_parser.specs.Whole.{StandsFor}
@@ -130,12 +132,16 @@ pub stands_for : (above : Kinds) (limit : ℕ) (last : Length) (t : Tree) (to : 
 stands_for above limit last t to (m ∷ rest) lines none is l even =
     absurd (nothing_open (role_has m.role l.stopped.1.0) (has_kind above l.stopped.1.0)
     (none l.stopped.1.0) l.stopped.1.1)
-stands_for above limit last t to [] lines none is l even = record {
-  stands = subst (λ ms. Stands limit 0 (items_of t) start ms) (sym (l.are ∙ append-nil l.done)) l.fine.stands;
-  long = ap place (sym (none_plus (length_of t)) ∙ l.long ∙ l.stopped) ∙ is;
-  ends = ap place (l.fine.ends ∙ l.stopped) ∙ is;
-  even = even;
-}
+stands_for above limit last t to [] lines none is l even =
+    let stands = subst (λ ms. Stands limit 0 (items_of t) start ms) (sym (l.are ∙ append-nil l.done)) l.fine.stands in
+    let ends = ap place (l.fine.ends ∙ l.stopped) ∙ is in record {
+      stands = stands;
+      long = ap place (sym (none_plus (length_of t)) ∙ l.long ∙ l.stopped) ∙ is;
+      ends = ends;
+      even = even;
+      rows = subst (λ e. AreFull (paired limit e (marks_in lines)) (tree_rows (items_of t) start 0 [])) ends
+          (row_law limit t (marks_in lines) stands);
+    }
 
 pub sound_is_even : (root : Option Tree) → SoundInside root → IsEven (or_nothing root)
 sound_is_even None sound = tt
