@@ -16,7 +16,8 @@ use Rattle.rule_defs.specs.Rules.{Rule, no_rule}
 use Rattle.rule_table.specs.Views.{Table}
 use Rattle.line_defs.specs.Machine.{Machine, rule_at}
 use Rattle.line_defs.specs.Runs.{State, Turned, rest}
-use Rattle.line_defs.specs.Search.{Found, Nothing, OutOfBudget, At, OfEnd, Sight, Matched, scan, sight, choices, ordinary, mark}
+use Rattle.line_defs.specs.Search.{Found, Nothing, OutOfBudget, At, OfEnd, Sight, Matched}
+use Rattle.line_defs.specs.Search.{scan, sight, choices, ordinary, mark}
 use Rattle.line_defs.specs.Injections.{with_injections}
 use Rattle.line_defs.specs.Turns.{Run, turn, turn_by, matched, end_found, rule_found}
 use Rattle.line_laws.proofs.Found.{MayBe, IsThere, IfAt, scan-there, choices-may_be}

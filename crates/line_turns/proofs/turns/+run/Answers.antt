@@ -78,8 +78,8 @@ begin_found-returns-clause-turned t c =
     ap (λ s. let state : State = s in depth state.stack) c.state.view_is in
     let less : depth c.args.state.now.stack < 1000 =
     omega (arith, same, c.if-is_full.false, c.depth-is_full.ensures.count) in
-    let content = content-told (run_of c.args.over.now c.args.levels) (matched_of c.args.m c.args.work.now.hit) c.args.id.0
-    (rule_of c.args.rule.now) c.args.state.now c.push_begin.new.state c.tell_match.new.state c.in_ok-before.before
+    let content = content-told (run_of c.args.over.now c.args.levels) (matched_of c.args.m c.args.work.now.hit)
+    c.args.id.0 (rule_of c.args.rule.now) c.args.state.now c.push_begin.new.state c.tell_match.new.state c.in_ok-before.before
     c.in_ok-scopes.scopes before c.in_ok-scopes.ensures pushed told in
     IfOk-weaker c.after_begin.result _ _
     (λ then e. e c.args.levels (rule_of c.args.rule.now) c.args.work.now.hit
@@ -87,7 +87,8 @@ begin_found-returns-clause-turned t c =
     ∙ ap (λ scopes. names (run_of c.args.over.now c.args.levels) (matched_of c.args.m c.args.work.now.hit) scopes
     (rule_of c.args.rule.now).content) (sym content))
     (kept-as (run_of c.args.over.now c.args.levels) (matched_of c.args.m c.args.work.now.hit) _
-    (record { of = OfEnd; from = 0; to = 0; captures = c.args.work.now.hit }) (rule_of c.args.rule.now).finish refl (c.in_ok-end.ensures c.args.levels))
+    (record { of = OfEnd; from = 0; to = 0; captures = c.args.work.now.hit }) (rule_of c.args.rule.now).finish
+    refl (c.in_ok-end.ensures c.args.levels))
     ∙ begun-more (run_of c.args.over.now c.args.levels) (matched_of c.args.m c.args.work.now.hit) c.args.id.0
     (rule_of c.args.rule.now) c.args.state.now c.push_begin.new.state c.tell_match.new.state c.in_ok-before.before
     c.in_ok-scopes.scopes before c.in_ok-scopes.ensures pushed told less)
@@ -204,14 +205,15 @@ turn-end_found-requires t c = (
         c.requires.few,
         (
           subst (λ s. let state : State = s in
-              IsPartFrom state.place (length c.args.over.now.text.now) c.ordinary.new.work.hit c.in-At.m) c.state.view_is
+              IsPartFrom state.place (length c.args.over.now.text.now) c.ordinary.new.work.hit c.in-At.m)
+              c.state.view_is
               (subst (λ f. IfAt f (IsPartFrom c.state.inside.place (length c.args.over.now.text.now)
               c.ordinary.new.work.hit)) c.in-At.is c.in_ok-ordinary.ensures.part),
           end-in-table c.args.over.now c.args.levels c.args.state.now c.in-At.m c.ordinary.new.work.hit
               (ap (λ f. found_of f c.ordinary.new.work.hit) (sym c.in-At.is)
               ∙ found-ordinary c.args.over.now c.args.searcher.now c.args.state.now _ _ _ c.top.result.now _
-              c.in_ok-ordinary.ensures.found c.requires.ready.same c.state.view_is c.flags-flags.ensures c.requires.ready.budget
-              c.top.ensures)
+              c.in_ok-ordinary.ensures.found c.requires.ready.same c.state.view_is c.flags-flags.ensures
+              c.requires.ready.budget c.top.ensures)
               c.in-End.is c.requires.running.inside,
         ),
       ),

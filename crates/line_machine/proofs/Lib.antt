@@ -1,0 +1,4 @@
+mod Cuts
+mod ForgottenStacks
+mod LineLaws
+mod PassLaws
