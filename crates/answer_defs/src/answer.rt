@@ -1,4 +1,5 @@
-use text_pos::{Chars, Items};
+use crate::pair_answer::{GuideRows, PairRows, Twin};
+use text_pos::{Chars, Items, Pos};
 
 /// What can be asked of a text. Lines count from 0, and `to` is the last line of a range. The questions are
 /// this project's own.
@@ -6,12 +7,27 @@ use text_pos::{Chars, Items};
 pub enum Question {
     /// The rows of these lines.
     Brackets { from: u32, to: u32 },
+    /// The pairs that reach into these lines.
+    Pairs { from: u32, to: u32 },
+    /// The guides of these lines.
+    Guides { from: u32, to: u32 },
     /// The characters of a line.
     Line { line: u32 },
+    /// The bracket at a place and its partner.
+    Match { at: Pos },
+    /// The closed pair around a place.
+    Around { at: Pos },
+    /// Where to jump from a place.
+    Jump { at: Pos },
+    /// How many pairs are open at a place.
+    Level { at: Pos },
 }
 
 /// A question asks for at most so many lines.
 pub const MOST_LINES_OF_A_QUESTION: u32 = 4_096;
+
+/// The most columns that a tab takes, and a tab takes at least one.
+pub const MOST_TAB: u32 = 32;
 
 /// Where a mark stands: its line, its first column and the column behind its last.
 #[derive(Clone, Copy, Debug, PartialEq, Eq)]
@@ -39,6 +55,18 @@ pub type Rows = Items<BracketRow>;
 pub enum Answer {
     /// The brackets of the lines that were asked for.
     Brackets(Rows),
+    /// The pairs that reach into the lines that were asked for.
+    Pairs(PairRows),
+    /// The guides of the lines that were asked for.
+    Guides(GuideRows),
     /// The characters of the line.
     Line(Chars),
+    /// The bracket at the place and its partner, where there are both.
+    Match(Option<Twin>),
+    /// The closed pair around the place, where there is one.
+    Around(Option<Twin>),
+    /// The place to jump to, where there is one.
+    Jump(Option<Pos>),
+    /// How many pairs are open at the place.
+    Level(u32),
 }

@@ -5,6 +5,6 @@ pub mod answer;
 pub mod pair_answer;
 pub mod refusal;
 
-pub use answer::{Answer, BracketRow, MOST_LINES_OF_A_QUESTION, MarkAt, Question, Rows};
+pub use answer::{Answer, BracketRow, MOST_LINES_OF_A_QUESTION, MOST_TAB, MarkAt, Question, Rows};
 pub use pair_answer::{GuideRow, GuideRows, PairRow, PairRows, Twin};
 pub use refusal::QuestionRefusal;

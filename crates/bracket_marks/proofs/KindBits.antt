@@ -75,7 +75,8 @@ is_at-more (b ∷ bits) bit zero n e =
 is_at-more (b ∷ bits) bit (suc k) n e =
     is_at-more bits bit k (length bits) refl
     ∙ ap (λ x. is_at bits k || (if bit then x else false)) (sym (one_behind k (length bits)))
-    ∙ ap (λ n. is_at bits k || (if bit then suc k == n else false)) (let same : suc (length bits) ≡ n = omega arith in same)
+    ∙ ap (λ n. is_at bits k || (if bit then suc k == n else false))
+    (let same : suc (length bits) ≡ n = omega arith in same)
 
 pub taken_more : (test : List ℕ → Bool) (xs : List (List ℕ)) (n : ℕ) (x : List ℕ) → n < length xs → x ≡ get_or xs n x
     → (k : ℕ) → is_at (map test (take (n + 1) xs)) k

@@ -9,8 +9,8 @@ use Rattle.pairing_defs.specs.Marks.{bracket_at, marked, further, marks_from, ma
 use Rattle.bracket_marks.specs.MarkLaws.{IsMark, IsMarkOf, MarksAreInTheLine, MarksAreTheLongestTexts}
 use Rattle.bracket_marks.specs.MarkLaws.{LongLinesHaveNoMarks}
 use Rattle.bracket_marks.proofs.LongestText.{bracket_fits}
-use Rattle.bracket_marks.proofs.TextsThatStand.{LongestOf, FirstOf, stands_from, some_longest, found_first, found_stands}
-use Rattle.bracket_marks.proofs.TextsThatStand.{slice_from}
+use Rattle.bracket_marks.proofs.TextsThatStand.{LongestOf, FirstOf, stands_from, some_longest, found_first}
+use Rattle.bracket_marks.proofs.TextsThatStand.{found_stands, slice_from}
 
 -- ---- where a mark is
 module _ (found : ℕ → Option BracketText) (mark : LineMark) where

@@ -40,7 +40,8 @@ module _ (f g : ℕ → Option BracketText) where
   marks-same zero taken column same = refl
   marks-same (suc left) (suc taken) column same = marks-same left taken (column + 1) (λ k h. same k (omega arith))
   marks-same (suc left) zero column same =
-      rw (same column (omega arith), marks-same left (further (g column)) (column + 1) (λ k h. same k (omega arith))) refl
+      let rest = marks-same left (further (g column)) (column + 1) (λ k h. same k (omega arith)) in
+      rw (same column (omega arith), rest) refl
 
 -- the marks from a column on go by what counts from there on
 pub marks_from-same : (f g : ℕ → Bool) (texts : List BracketText) (line : List ℕ) (column left : ℕ)

@@ -1,9 +1,10 @@
 -- Words that are no command line.
-use Rattle.std.proofs.Common.{◌≡◌, ◌<◌, ◌≤◌, ℕ, List, [], ◌∷◌, length, map, get_or, refl, ap, ◌∙◌, arith, Bool, true}
+use Rattle.std.proofs.Common.{◌≡◌, ◌<◌, ◌≤◌, ℕ, List, [], ◌∷◌, length, map, get_or, refl, ap, sym, ◌∙◌, arith, Bool, true}
 use Rattle.std.proofs.Common.{false, ◌&&◌}
 use Rattle.std.specs.Prelude.{Option, Some, None, String, string_bytes, if◌then◌else◌}
 use Rattle.std.specs.declared.alloc.Global.{Global}
-use Rattle.session_defs.specs.Words.{Request, request_of, requested, is_nesting, value_of}
+use Rattle.session_defs.specs.Words.{Request, request_of, request_for, requested, limits_with, is_nesting, value_of}
+use Rattle.session_defs.specs.declared.limits.TheConstants.{USUAL_TAB}
 
 abbrev requests : List (String Global) → Option Request
 requests words = request_of (map string_bytes words)
@@ -48,3 +49,18 @@ no_request-number (a ∷ b ∷ c ∷ e ∷ []) number digits h k is d none =
     no_nesting _ _ (is_nesting (string_bytes e)) (value_of (string_bytes e)) (string_bytes b)
     (none ∙ ap (λ w. if is_nesting w then Some (value_of w) else None) (d ∙ ap string_bytes is))
 no_request-number (a ∷ b ∷ c ∷ e ∷ f ∷ more) number digits h k is d none = absurd (omega arith)
+
+-- no word names the columns of a tab, so there are as many as usual
+requested_tab : (fits : Bool) (name : List ℕ) (nesting : ℕ) (r : Request) → requested fits name nesting ≡ Some r
+    → r.limits.tab ≡ USUAL_TAB
+requested_tab false name nesting r e = cc
+requested_tab true name nesting r e =
+    let same : request_for name (limits_with nesting) ≡ r = cc in ap (λ r. r.limits.tab) (sym same)
+
+pub request_tab : (words : List (List ℕ)) (r : Request) → request_of words ≡ Some r → r.limits.tab ≡ USUAL_TAB
+request_tab [] r e = cc
+request_tab (program ∷ []) r e = cc
+request_tab (program ∷ name ∷ []) r e = requested_tab _ name _ r e
+request_tab (program ∷ name ∷ option ∷ []) r e = cc
+request_tab (program ∷ name ∷ option ∷ number ∷ []) r e = requested_tab _ name _ r e
+request_tab (program ∷ name ∷ option ∷ number ∷ word ∷ more) r e = cc

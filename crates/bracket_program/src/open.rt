@@ -1,10 +1,11 @@
-ghost use Rattle.std.specs.Prelude.{◌≡◌, ℕ, List, true, IfOk, IfErr, OnOk};
+ghost use Rattle.std.specs.Prelude.{◌≡◌, ◌≤◌, ℕ, List, true, IfOk, IfErr, OnOk};
 ghost use Rattle.text_defs.specs.Text.{is_text, text_of};
 ghost use Rattle.document_defs.specs.TextRows.{usual};
 ghost use Rattle.bracket_program.specs.Run.{IsFileEnd, Opens, SameCounts};
 ghost use Rattle.bracket_program.specs.Texts.{IsTextEnd, ReadsText};
 
 use crate::status::Status;
+use answer_defs::MOST_TAB;
 use bracket_lex::Brackets;
 use document::Document;
 use line_text::{Text, TextRefusal};
@@ -20,6 +21,8 @@ pub fn open_document<F: Files>(
     name: &str,
     limits: Limits,
 ) -> Result<Document, Status>
+    requires some_columns { 1 ≤ limits.tab }
+    requires few_columns { limits.tab ≤ MOST_TAB }
     ensures opens { IfOk result (λ d. Opens (F.contents files.old name.now) d.text) }
     ensures settings { IfOk result (λ d. d.settings ≡ usual limits) }
     ensures counts { OnOk result (SameCounts (F.faults files.old) (F.faults files.new)) }

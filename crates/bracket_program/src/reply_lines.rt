@@ -105,6 +105,7 @@ fn obey(alloc: Global, document: &mut Document, command: &Command) -> Result<Rep
         Command::Ask(question) => match document.ask(alloc, question) {
             Ok(answer) => Ok(Reply::Answered(answer)),
             Err(AskRefusal::Line { .. }) => Ok(Reply::Refused(Refusal::Line)),
+            Err(AskRefusal::Place { .. }) => Ok(Reply::Refused(Refusal::Place)),
             Err(AskRefusal::Memory(error)) => Err(error),
         },
     }

@@ -80,7 +80,7 @@ fn run_counted<L: Ledger, M: Ledger, S: Source, K: Sink>(
     run(alloc, words, files, script, sink, &mut steps, &mut marks)
 }
 
-const CASES: [Case<'static>; 17] = [
+const CASES: [Case<'static>; 20] = [
     // An empty file is one empty line.
     Case {
         words: &["text"],
@@ -135,6 +135,30 @@ const CASES: [Case<'static>; 17] = [
         text: Some(b"a"),
         script: b"x\n\n[]\n{\"turn\":0}\n{\"level\":[0,-1]}\n{\"line\":1}\n{\"brackets\":[0,1]}\n{\"line\":0}\n",
         wrote: b"{\"opened\":1,\"unread\":0}\n{\"refused\":\"json\"}\n{\"refused\":\"json\"}\n{\"refused\":\"command\"}\n{\"refused\":\"command\"}\n{\"refused\":\"command\"}\n{\"refused\":\"line\"}\n{\"refused\":\"line\"}\n{\"line\":\"a\"}\n",
+        status: Status::Done,
+    },
+    // Questions about a place: the bracket there, the pair around it, where to jump, and how many pairs are open.
+    Case {
+        words: &["text"],
+        text: Some(b"()"),
+        script: b"{\"match\":[0,1]}\n{\"around\":[0,1]}\n{\"jump\":[0,2]}\n{\"around\":[0,0]}\n{\"level\":[0,1]}\n{\"level\":[0,3]}\n{\"level\":[1,0]}\n{\"brackets\":[0,1]}\n",
+        wrote: b"{\"opened\":1,\"unread\":0}\n{\"match\":[[0,1,2],[0,0,1]]}\n{\"around\":[[0,0,1],[0,1,2]]}\n{\"jump\":[0,0]}\n{\"around\":null}\n{\"level\":1}\n{\"refused\":\"place\"}\n{\"refused\":\"line\"}\n{\"refused\":\"line\"}\n",
+        status: Status::Done,
+    },
+    // All of them over a function, and after an edit.
+    Case {
+        words: &["text"],
+        text: Some(b"function f(a) {\n  if (a[0] > 1) {\n    log(a + 1);\n  }\n}\n"),
+        script: b"{\"guides\":[0,5]}\n{\"pairs\":[3,3]}\n{\"match\":[2,8]}\n{\"around\":[2,0]}\n{\"level\":[2,9]}\n{\"jump\":[2,0]}\n{\"edit\":[[4,0,4,1,\"\"]]}\n{\"pairs\":[4,5]}\n{\"guides\":[4,5]}\n{\"jump\":[5,0]}\n",
+        wrote: b"{\"opened\":6,\"unread\":0}\n{\"guides\":[[1,0,0],[2,0,0],[2,2,1],[3,0,0],[3,2,1],[4,0,0]]}\n{\"pairs\":[[[0,14,15],[4,0,1],0,0],[[1,16,17],[3,2,3],1,1]]}\n{\"match\":[[2,7,8],[2,13,14]]}\n{\"around\":[[1,16,17],[3,2,3]]}\n{\"level\":3}\n{\"jump\":[3,2]}\n{\"edited\":6}\n{\"pairs\":[[[0,14,15],null,0,0]]}\n{\"guides\":[]}\n{\"jump\":null}\n",
+        status: Status::Done,
+    },
+    // A tab goes to the next multiple of four, and the smaller indentation counts; a place's line is tested first.
+    Case {
+        words: &["text"],
+        text: Some(b"\t(\n  \t  a\n  \t )"),
+        script: b"{\"guides\":[0,2]}\n{\"guides\":[2,2]}\n{\"guides\":[1,0]}\n{\"match\":[3,99]}\n{\"jump\":[1,99]}\n",
+        wrote: b"{\"opened\":3,\"unread\":0}\n{\"guides\":[[1,4,0],[2,4,0]]}\n{\"guides\":[[2,4,0]]}\n{\"refused\":\"line\"}\n{\"refused\":\"line\"}\n{\"refused\":\"place\"}\n",
         status: Status::Done,
     },
     // A file that is no UTF-8, and one that isn't there.

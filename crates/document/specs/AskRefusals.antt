@@ -3,8 +3,9 @@ use Rattle.std.specs.Prelude.{◌≡◌, Option, Some}
 use Rattle.answer_defs.specs.declared.refusal.QuestionRefusal.{QuestionRefusal}
 use Rattle.answer_defs.specs.declared.refusal.QuestionRefusal.TheVariants as cause
 use Rattle.document.specs.declared.document.AskRefusal.{AskRefusal}
-use Rattle.document.specs.declared.document.AskRefusal.TheVariants.{Line, Memory}
+use Rattle.document.specs.declared.document.AskRefusal.TheVariants.{Line, Place, Memory}
 
 abbrev pub HasAskCause : Option QuestionRefusal → AskRefusal → Type 0
 HasAskCause why (Line lines) = why ≡ Some (cause.Line lines)
+HasAskCause why (Place length) = why ≡ Some (cause.Place length)
 HasAskCause why (Memory error) = Unit {0}

@@ -1,19 +1,19 @@
-ghost use Rattle.std.specs.Prelude.{◌≡◌, None, Some, IfOk, IfErr, OnOk, OnErr};
+ghost use Rattle.std.specs.Prelude.{◌≡◌, ◌<◌, ◌≤◌, ◌^◌, length, None, Some, IfOk, IfErr, OnOk, OnErr};
 ghost use Rattle.text_defs.specs.Text.{line_count};
 ghost use Rattle.text_defs.specs.Batch.{batch_refusal, edited};
 ghost use Rattle.line_text.specs.BatchRefusals.{HasCause};
-ghost use Rattle.answer_defs.specs.Answers.{is_range, question_refusal};
+ghost use Rattle.answer_defs.specs.Answers.{answer_among, is_range, line_refusal, place_refusal, question_refusal, range_refusal};
 ghost use Rattle.document_defs.specs.TextRows.{rows_of, settings_of};
 ghost use Rattle.document_defs.specs.DocumentAnswers.{answer_of};
 ghost use Rattle.document.specs.AskRefusals.{HasAskCause};
 
-use answer_defs::{Answer, MOST_LINES_OF_A_QUESTION, Question, QuestionRefusal};
-use bracket_lex::{Brackets, MarkLines, Paired};
+use answer_defs::{Answer, MOST_LINES_OF_A_QUESTION, MOST_TAB, Question, QuestionRefusal};
+use bracket_lex::{Brackets, MarkLines, Paired, Row};
 use line_text::{Edit, EditRefusal, Edited, Text};
-use pair_queries::brackets;
+use pair_queries::{around, brackets, guides, jump, level_at, match_at, pairs};
 use std::alloc::{AllocError, Global};
 use std::marker::Model;
-use text_pos::{Chars, Limits};
+use text_pos::{Chars, Limits, Pos};
 use thiserror::Error;
 
 /// An open text, with its brackets and limits.
@@ -30,6 +30,11 @@ impl Model for Document {
     ghost Value = { State };
 
     ghost view = { λ d. record { text = d.text; settings = record { texts = d.brackets; limits = d.limits } } };
+
+    ghost use Rattle.std.specs.Prelude.{◌≤◌};
+    ghost use Rattle.answer_defs.specs.declared.answer.TheConstants.{MOST_TAB};
+
+    ghost invariant = { λ d. (1 ≤ d.limits.tab) × (d.limits.tab ≤ MOST_TAB) };
 }
 
 /// Why a question has no answer.
@@ -38,6 +43,9 @@ pub enum AskRefusal {
     /// A line of the question isn't there, or its range is no range; the text has so many lines.
     #[error("Line")]
     Line { lines: u64 },
+    /// A place of the question is behind the end of its line, which has so many characters.
+    #[error("Place")]
+    Place { length: u64 },
     #[error("Memory")]
     Memory(AllocError),
 }
@@ -45,6 +53,8 @@ pub enum AskRefusal {
 impl Document {
     /// Opens a text.
     pub fn begin(text: Text, brackets: Brackets, limits: Limits) -> Result<Document, AllocError>
+        requires some { 1 ≤ limits.tab }
+        requires few { limits.tab ≤ MOST_TAB }
         ensures text { IfOk result (λ d. d.text ≡ text) }
         ensures texts { IfOk result (λ d. d.settings.texts ≡ brackets) }
         ensures limits { IfOk result (λ d. d.settings.limits ≡ limits) }
@@ -71,7 +81,7 @@ impl Document {
         Ok(self.text.lines())
     }
 
-    /// The answer to a question. The whole text is paired anew for it.
+    /// The answer to a question. The whole text is paired anew for it, but for a line's characters.
     pub fn ask(&mut self, alloc: Global, question: &Question) -> Result<Answer, AskRefusal>
         ensures answer { IfOk result (λ a. a ≡ answer_of self.old.settings self.old.text question.now) }
         ensures answered { OnOk result (question_refusal self.old.text question.now ≡ None) }
@@ -81,6 +91,7 @@ impl Document {
     {
         match self.refusal_of(question) {
             Some(QuestionRefusal::Line { lines }) => Err(AskRefusal::Line { lines }),
+            Some(QuestionRefusal::Place { length }) => Err(AskRefusal::Place { length }),
             None => self.answer(alloc, question).map_err(AskRefusal::Memory),
         }
     }
@@ -98,17 +109,15 @@ impl Document {
     fn refusal_of(&self, question: &Question) -> Option<QuestionRefusal>
         ensures { result ≡ question_refusal self.now.text question.now }
     {
-        let lines = self.text.lines();
-        let is_there = match *question {
-            Question::Brackets { from, to } => is_range(lines, from, to),
-            Question::Line { line } => line < lines,
-        };
-        if is_there {
-            None
-        } else {
-            Some(QuestionRefusal::Line {
-                lines: u64::from(lines),
-            })
+        match *question {
+            Question::Brackets { from, to }
+            | Question::Pairs { from, to }
+            | Question::Guides { from, to } => range_refusal(&self.text, from, to),
+            Question::Line { line } => line_refusal(&self.text, line),
+            Question::Match { at }
+            | Question::Around { at }
+            | Question::Jump { at }
+            | Question::Level { at } => place_refusal(&self.text, at),
         }
     }
 
@@ -116,16 +125,90 @@ impl Document {
         requires { question_refusal self.now.text question.now ≡ None }
         ensures { IfOk result (λ a. a ≡ answer_of self.now.settings self.now.text question.now) }
     {
-        match *question {
-            Question::Brackets { from, to } => {
-                let rows = pair_text(alloc, &self.text, &self.brackets, self.limits)?;
-                Ok(Answer::Brackets(brackets(alloc, rows.rows(), from, to)?))
-            }
-            Question::Line { line } => {
-                let chars = self.text.line(line).chars();
-                Ok(Answer::Line(Chars::of(alloc, chars)?))
-            }
+        if let Question::Line { line } = *question {
+            let chars = self.text.line(line).chars();
+            return Ok(Answer::Line(Chars::of(alloc, chars)?));
         }
+        let rows = pair_text(alloc, &self.text, &self.brackets, self.limits)?;
+        answer_among(alloc, rows.rows(), &self.text, self.limits.tab, question)
+    }
+}
+
+/// The answer to a question, of the rows of a text.
+fn answer_among(
+    alloc: Global,
+    rows: &[Row],
+    text: &Text,
+    tab: u32,
+    question: &Question,
+) -> Result<Answer, AllocError>
+    requires answered { question_refusal text.now question.now ≡ None }
+    requires few { length rows.now < 2 ^ 32 }
+    requires some_columns { 1 ≤ tab }
+    requires few_columns { tab ≤ MOST_TAB }
+    ensures { IfOk result (λ a. a ≡ answer_among tab rows.now text.now question.now) }
+{
+    match *question {
+        Question::Brackets { from, to } => Ok(Answer::Brackets(brackets(alloc, rows, from, to)?)),
+        Question::Pairs { from, to } => Ok(Answer::Pairs(pairs(alloc, rows, from, to)?)),
+        Question::Guides { from, to } => {
+            Ok(Answer::Guides(guides(alloc, rows, text, tab, from, to)?))
+        }
+        Question::Line { line } => {
+            let chars = text.line(line).chars();
+            Ok(Answer::Line(Chars::of(alloc, chars)?))
+        }
+        Question::Match { at } => Ok(Answer::Match(match_at(rows, at))),
+        Question::Around { at } => Ok(Answer::Around(around(rows, at))),
+        Question::Jump { at } => Ok(Answer::Jump(jump(rows, at))),
+        Question::Level { at } => Ok(Answer::Level(level_at(rows, at))),
+    }
+}
+
+/// Why a range of lines is refused.
+fn range_refusal(text: &Text, from: u32, to: u32) -> Option<QuestionRefusal>
+    ensures { result ≡ range_refusal text.now from to }
+{
+    let lines = text.lines();
+    if is_range(lines, from, to) {
+        None
+    } else {
+        Some(no_line(lines))
+    }
+}
+
+/// Why a line is refused.
+fn line_refusal(text: &Text, line: u32) -> Option<QuestionRefusal>
+    ensures { result ≡ line_refusal text.now line }
+{
+    let lines = text.lines();
+    if line < lines {
+        None
+    } else {
+        Some(no_line(lines))
+    }
+}
+
+fn no_line(lines: u32) -> QuestionRefusal
+    ensures { result ≡ QuestionRefusal.Line lines }
+{
+    QuestionRefusal::Line {
+        lines: u64::from(lines),
+    }
+}
+
+/// Why a place is refused: its line is tested first.
+fn place_refusal(text: &Text, at: Pos) -> Option<QuestionRefusal>
+    ensures { result ≡ place_refusal text.now at }
+{
+    if at.line >= text.lines() {
+        return line_refusal(text, at.line);
+    }
+    let length = text.line(at.line).chars().len() as u64;
+    if u64::from(at.col) <= length {
+        None
+    } else {
+        Some(QuestionRefusal::Place { length })
     }
 }
 

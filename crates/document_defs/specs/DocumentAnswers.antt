@@ -6,4 +6,4 @@ use Rattle.answer_defs.specs.Answers.{answer_among}
 use Rattle.document_defs.specs.TextRows.{Settings, rows_of}
 
 abbrev pub answer_of : Settings → List ℕ → Question → Answer
-answer_of settings text q = answer_among (rows_of settings text) text q
+answer_of settings text q = answer_among settings.limits.tab (rows_of settings text) text q

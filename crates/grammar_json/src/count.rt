@@ -18,7 +18,8 @@ pub(crate) fn rule_count(grammar: &Grammar) -> u64
         .saturating_add(named_count(&grammar.injections))
 }
 
-fn named_count(rules: &NamedRules) -> u64
+/// Those of a repository, or of injections.
+pub fn named_count(rules: &NamedRules) -> u64
     ensures { result ≡ min (rules_of_named (map named_view rules.now)) (2 ^ 64 - 1) }
 {
     let mut count = 0u64;
@@ -28,8 +29,9 @@ fn named_count(rules: &NamedRules) -> u64
     count
 }
 
+/// How many rules a rule is, with those in it. The counts of this file stop at the largest number.
 #[cycle(count)]
-fn count_of_rule(rule: &RawRule) -> u64
+pub fn count_of_rule(rule: &RawRule) -> u64
     ensures { result ≡ min (rules_of_rule (rule_of rule.now)) (2 ^ 64 - 1) }
 {
     1u64.saturating_add(captures_count(&rule.captures))
@@ -49,9 +51,10 @@ fn patterns_count(patterns: &Option<Entries>) -> u64
     }
 }
 
+/// Those of a list.
 #[cycle(count)]
 #[tactic(auto, using(crate::proofs::CountLemmas::own_rule_of_list))]
-fn entries_count(entries: &Entries) -> u64
+pub fn entries_count(entries: &Entries) -> u64
     ensures count { result ≡ min (rules_of_list entries.now) (2 ^ 64 - 1) }
     ensures there { own_rule entries.now ≡ 1 }
 {
@@ -72,8 +75,9 @@ fn entry_count(entry: &Entry) -> u64
     }
 }
 
+/// Those in captures.
 #[cycle(count)]
-fn captures_count(captures: &Option<Captures>) -> u64
+pub fn captures_count(captures: &Option<Captures>) -> u64
     ensures { result ≡ min (rules_of_list (if_there captures.now)) (2 ^ 64 - 1) }
 {
     match captures {
@@ -95,7 +99,7 @@ fn all_captures_count(captures: &Captures) -> u64
 
 /// A capture's rules, itself among them, where it has rules of its own.
 #[cycle(count)]
-fn capture_count(patterns: &Option<Entries>) -> u64
+pub fn capture_count(patterns: &Option<Entries>) -> u64
     ensures { result ≡ min (capture_rules (if_there patterns.now)) (2 ^ 64 - 1) }
 {
     match patterns {

@@ -3,7 +3,7 @@
 
 pub mod brackets;
 mod capture_key;
-mod count;
+pub mod count;
 pub mod fault;
 pub mod file_rules;
 pub mod grammar;

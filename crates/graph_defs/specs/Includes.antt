@@ -14,7 +14,7 @@ repository_from g = 1 + rules_of_list g.patterns
 abbrev pub number_of : ℕ → List NamedRule → List ℕ → Option ℕ
 number_of n [] key = None
 number_of n (named ∷ rules) key =
-    if bytes_eq key named.key then Some n else number_of (n + rules_of_rule named.rule) rules key
+    if bytes_eq named.key key then Some n else number_of (n + rules_of_rule named.rule) rules key
 
 abbrev pub in_repository : Grammar → List ℕ → Option ℕ
 in_repository g key = number_of (repository_from g) g.repository key

@@ -5,7 +5,7 @@ use Rattle.text_pos.specs.declared.length.Pos.{Pos}
 use Rattle.pairing_defs.specs.declared.LineMark.{LineMark}
 use Rattle.pairing_defs.specs.declared.Mark.{Mark}
 use Rattle.pairing_defs.specs.Marks.{on_line, marks_of_lines}
-use Rattle.bracket_lex.specs.MarkedLine.{MarkedLine}
+use Rattle.bracket_marks.specs.MarkedLine.{MarkedLine}
 use Rattle.mark_source.specs.Source.{is_before, marks_from, end_of, first, RiseIn, AreMarked}
 use Rattle.mark_source.specs.Reading.{is_passed}
 use Rattle.mark_source.proofs.Orders.{before_by_col, not_before_by_col, not_before_by_line, before_up_to}

@@ -8,7 +8,7 @@ use Rattle.text_pos.specs.declared.length.Pos.{Pos}
 use Rattle.pairing_defs.specs.declared.LineMark.{LineMark}
 use Rattle.pairing_defs.specs.declared.Mark.{Mark}
 use Rattle.pairing_defs.specs.Marks.{on_line, marks_of_lines}
-use Rattle.bracket_lex.specs.MarkedLine.{MarkedLine, marks_in}
+use Rattle.bracket_marks.specs.MarkedLine.{MarkedLine, marks_in}
 use Rattle.mark_source.specs.Source.{marks_from, RiseIn, AreMarked}
 use Rattle.mark_source.specs.Reading.{later, marks_at}
 use Rattle.mark_source.proofs.Orders.{before_by_line, before_by_col, not_before_by_col, not_before_by_line}

@@ -8,7 +8,7 @@ use Rattle.std.proofs.lemmas.List.{drop_all}
 use Rattle.pairing_defs.specs.declared.LineMark.{LineMark}
 use Rattle.pairing_defs.specs.declared.Mark.{Mark}
 use Rattle.pairing_defs.specs.Marks.{on_line, marks_of_lines}
-use Rattle.bracket_lex.specs.MarkedLine.{MarkedLine}
+use Rattle.bracket_marks.specs.MarkedLine.{MarkedLine}
 use Rattle.mark_source.specs.Source.{first}
 use Rattle.mark_source.specs.Reading.{later, from_spot, marks_at, IsSpot}
 use Rattle.mark_source.specs.declared.spot.Spot.{Spot}

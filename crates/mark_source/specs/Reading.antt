@@ -5,7 +5,7 @@ use Rattle.text_pos.specs.declared.length.Pos.{Pos}
 use Rattle.pairing_defs.specs.declared.Mark.{Mark}
 use Rattle.pairing_defs.specs.declared.LineMark.{LineMark}
 use Rattle.pairing_defs.specs.Marks.{marks_of_lines}
-use Rattle.bracket_lex.specs.MarkedLine.{MarkedLine}
+use Rattle.bracket_marks.specs.MarkedLine.{MarkedLine}
 use Rattle.mark_source.specs.Source.{Source, ahead, is_before, AreMarked}
 use Rattle.mark_source.specs.declared.spot.Spot.{Spot}
 use Rattle.mark_source.specs.declared.reader.MarkReader.TheInside.{Inside}

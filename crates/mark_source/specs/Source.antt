@@ -6,7 +6,7 @@ use Rattle.pairing_defs.specs.declared.LineMark.{LineMark}
 use Rattle.pairing_defs.specs.declared.Mark.{Mark}
 use Rattle.pairing_defs.specs.declared.Role.{Role}
 use Rattle.pairing_defs.specs.declared.Role.TheVariants.{Opener, Closer}
-use Rattle.bracket_lex.specs.MarkedLine.{MarkedLine, marks_in}
+use Rattle.bracket_marks.specs.MarkedLine.{MarkedLine, marks_in}
 
 pub record Source : Type 0 where
   pub lines : List MarkedLine

@@ -12,6 +12,7 @@ use step_count::Steps;
 use text_pos::Pos;
 
 /// The marks of some lines, from a place on.
+#[derive(Drop)]
 pub struct MarkReader<'a> {
     lines: &'a MarkLines,
     /// The place that was reached.

@@ -1,6 +1,6 @@
 ghost use Rattle.std.specs.Prelude.{◌≡◌, ◌+◌, ◌<◌, ◌≤◌, length, drop, suc, true, false, nat_lt, IfSome};
 ghost use Rattle.std.specs.List.Sorted.{IsNonDecreasingBy, IsPartitionPoint};
-ghost use Rattle.bracket_lex.specs.MarkedLine.{marks_in};
+ghost use Rattle.bracket_marks.specs.MarkedLine.{marks_in};
 ghost use Rattle.mark_source.specs.Source.{AreMarked, marks_from, first};
 ghost use Rattle.mark_source.specs.Reading.{from_spot, later, marks_at, IsSpot};
 

@@ -20,7 +20,7 @@ use Rattle.onig_match.specs.declared.entries.Resume.{Resume}
 use Rattle.onig_match.specs.declared.entries.Resume.TheVariants.{Other, Alternatives, AfterAhead, AfterBehind}
 use Rattle.onig_match.specs.declared.entries.Resume.TheVariants.{AfterAtomic, GiveBack}
 use Rattle.onig_match.specs.declared.entries.Step.{Step}
-use Rattle.onig_match.specs.declared.entries.Step.TheVariants.{Go}
+use Rattle.onig_match.specs.declared.entries.Step.TheVariants.{Go, Failed}
 use Rattle.onig_match.specs.declared.entries.Visited.{Visited}
 use Rattle.onig_match.specs.declared.area.Area.{Area}
 use Rattle.onig_match.specs.declared.searched.Searched.{Searched}
@@ -29,6 +29,7 @@ use Rattle.onig_match.specs.Piles.{Piled}
 use Rattle.onig_match.specs.Machine.{subject, kept, captures_at, todo_of, resumed, carry, carried, means, with_entry}
 use Rattle.onig_match.specs.Machine.{end_of, rank}
 use Rattle.onig_match.specs.Sound.{AreTaken, IsSound, IsStep, HasRoom, SameRooms, Leads, Visits}
+use Rattle.onig_match.specs.Sound.{Returns}
 use Rattle.onig_match.proofs.VisitCounts.{goes-zero}
 use Rattle.onig_match.proofs.VisitSteps.{start, start_alone}
 
@@ -153,6 +154,43 @@ after_pop on initial self new rest entry step result ran left answer items room 
       room = leads.room left (rw none has);
       rooms = rooms_join initial self new rooms leads.rooms;
       falls = omega (arith, leads.falls, ended);
+    }
+
+-- the same where visits were done on going back
+
+pub spent_back : (on : Searched) (self new : Area) (rest : Piled Entry) (entry : Entry) (back : Visited) (left : ℕ)
+    (answer : Ran) → self.entries.items ≡ entry ∷ rest.items → rest.room ≡ self.entries.room → left < back.more →
+    means (subject on) self Failed left ≡ answer →
+    Returns on (with_entry (record { captures = self.captures; cells = self.cells; entries = rest; trail = self.trail })
+    entry) (λ l. carried (subject on)
+    (with_entry (record { captures = self.captures; cells = self.cells; entries = rest; trail = self.trail }) entry)
+    (Miss l)) new back → answer ≡ Spent
+spent_back on self new rest entry back left answer items room low is led =
+    let returns : Returns on self (λ l. carried (subject on) self (Miss l)) new back =
+    subst (λ (a : Area). Returns on a (λ l. carried (subject on) a (Miss l)) new back)
+    (popped self rest entry items room) led in
+    sym is ∙ returns.spent left low
+
+pub after_back : (on : Searched) (initial self new : Area) (rest : Piled Entry) (entry : Entry) (back : Visited)
+    (left : ℕ) (answer : Ran) → self.entries.items ≡ entry ∷ rest.items → rest.room ≡ self.entries.room →
+    back.more ≤ left → means (subject on) self Failed left ≡ answer → HasRoom self left → SameRooms initial self →
+    Returns on (with_entry (record { captures = self.captures; cells = self.cells; entries = rest; trail = self.trail })
+    entry) (λ l. carried (subject on)
+    (with_entry (record { captures = self.captures; cells = self.cells; entries = rest; trail = self.trail }) entry)
+    (Miss l)) new back →
+    Turns on initial new back.step (left - back.more) answer (4 * left + 2 * length self.entries.items + rank Failed)
+after_back on initial self new rest entry back left answer items room enough is has rooms led =
+    let returns : Returns on self (λ l. carried (subject on) self (Miss l)) new back =
+    subst (λ (a : Area). Returns on a (λ l. carried (subject on) a (Miss l)) new back)
+    (popped self rest entry items room) led in
+    let whole : left - back.more + back.more ≡ left = omega (arith, enough) in
+    record {
+      ends = returns.leads.ends (left - back.more) ∙ rw whole is;
+      sound = returns.leads.sound;
+      step = returns.leads.step;
+      room = returns.leads.room (left - back.more) (rw whole has);
+      rooms = rooms_join initial self new rooms returns.leads.rooms;
+      falls = omega (arith, returns.leads.falls, enough);
     }
 
 -- the end

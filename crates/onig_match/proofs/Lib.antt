@@ -1,5 +1,7 @@
 pub mod Budgets
 pub mod Carries
+pub mod EarlyMisses
+pub mod EarlyWays
 pub mod Ends
 pub mod Flat
 pub mod Fronts

@@ -22,7 +22,7 @@ use Rattle.onig_match.proofs.Ends.{carry-spent}
 use Rattle.onig_match.proofs.RunVisits.{last_look, not_greatest, runs_first, run-enough, run-few, run-spent}
 
 -- a step that takes room for one visit takes none for more of them
-leads_wider : (on : Searched) (more : ℕ) (old : Area) (answer : ℕ → Ran) (new : Area) (result : Step) →
+pub leads_wider : (on : Searched) (more : ℕ) (old : Area) (answer : ℕ → Ran) (new : Area) (result : Step) →
     Leads on 1 old answer new result → Leads on (more + 1) old answer new result
 leads_wider on more old answer new result leads = record {
   ends = leads.ends;

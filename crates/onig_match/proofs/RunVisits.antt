@@ -112,12 +112,14 @@ module _ (s : Subject) (set : List CharRange) (body : ListId) (least : ℕ) (mos
 
   iterated-none : (count at left : ℕ) → stands at ≡ false → iterated count at (suc left) ≡ Miss left
   iterated-none count at left ends =
-      rw (is, goes-act s (Node (One set)) (Again body least most true (count + 1) at ∷ rest) at captures left, ends) refl
+      let again : List Todo = Again body least most true (count + 1) at ∷ rest in
+      rw (is, goes-act s (Node (One set)) again at captures left, ends) refl
 
   iterated-one : (count at left : ℕ) → stands at ≡ true →
       iterated count at (suc left) ≡ goes s (Again body least most true (count + 1) at ∷ rest) (at + 1) captures left
   iterated-one count at left there =
-      rw (is, goes-act s (Node (One set)) (Again body least most true (count + 1) at ∷ rest) at captures left, there) refl
+      let again : List Todo = Again body least most true (count + 1) at ∷ rest in
+      rw (is, goes-act s (Node (One set)) again at captures left, there) refl
 
   iterated-short : (count at : ℕ) → stands at ≡ true → iterated count at 1 ≡ Spent
   iterated-short count at there = iterated-one count at 0 there ∙ goes-zero s _ (at + 1) captures
@@ -173,8 +175,8 @@ module _ (s : Subject) (set : List CharRange) (body : ListId) (least : ℕ) (mos
       let places : taken - (least - (count + 1)) ≡ taken = omega arith in
       let all : suc taken - (least - count) ≡ suc taken = omega arith in
       let end : at + 1 + taken ≡ at + suc taken = omega arith in
-      let later : repeated (count + 1) at (at + 1) more ≡ given_back (goes s) rest taken (at + suc taken) captures left =
-      rw (places, end) at later in
+      let later : repeated (count + 1) at (at + 1) more
+      ≡ given_back (goes s) rest taken (at + suc taken) captures left = rw (places, end) at later in
       repeated-on count begun at (suc (suc more)) free low may
       ∙ rw (iterated-more count at more here, later, all)
       (given_back-more (goes s) rest taken (at + suc taken) at captures left refl)
@@ -270,7 +272,8 @@ module _ (s : Subject) (set : List CharRange) (body : ListId) (least : ℕ) (mos
         (let l : suc (suc left) < suc taken + suc taken + last_look most (count + 1 + taken) =
             rw further at low in l),
       ) in
-      repeated-spent (nat_lt count least) count begun at (suc (suc left)) refl free (rw none at (run.may 0 (omega arith)))
+      repeated-spent (nat_lt count least) count begun at (suc (suc left)) refl free
+      (rw none at (run.may 0 (omega arith)))
       (iterated-more count at left here
       ∙ run-spent taken (count + 1) at (at + 1) left (moves count at)
       (runs-next (in_set set) s.text most count at taken run) fewer)

@@ -1,10 +1,16 @@
 -- What holds of the stack of an attempt at each step.
-use Rattle.std.specs.Prelude.{◌≡◌, ℕ, ◌+◌, ◌*◌, ◌^◌, ◌<◌, ◌≤◌, List, [], ◌∷◌, length, drop, filter, nat_le, Bool}
+use Rattle.std.specs.Prelude.{◌≡◌, ℕ, ◌+◌, ◌*◌, ◌^◌, ◌<◌, ◌≤◌, List, [], ◌∷◌, length, map, drop, filter, nat_le, Bool}
 use Rattle.std.specs.Prelude.{true, false, Option, Some, None, slice_get, slice_set}
+use Rattle.char_sets.specs.Ranges.{in_set}
+use Rattle.char_sets.specs.declared.char_set.CharRange.{CharRange}
+use Rattle.pattern_defs.specs.declared.nodes.ListId.{ListId}
 use Rattle.pattern_defs.specs.declared.nodes.Arm.{Arm}
+use Rattle.pattern_defs.specs.declared.nodes.PatNode.{PatNode}
+use Rattle.pattern_defs.specs.declared.nodes.PatNode.TheVariants.{One, Group}
 use Rattle.pattern_defs.specs.declared.outcomes.Place.{Place}
 use Rattle.pattern_defs.specs.Patterns.{NodeLists, Tree, nodes_of}
-use Rattle.pattern_defs.specs.Attempt.{Captures, Ran, Spent, is_char, is_greatest}
+use Rattle.pattern_defs.specs.Attempt.{Subject, Captures, Todo, Ran, Miss, Spent, before, is_char}
+use Rattle.pattern_defs.specs.Attempt.{is_greatest, tries}
 use Rattle.onig_match.specs.declared.cells.Rest.{Rest}
 use Rattle.onig_match.specs.declared.cells.Cell.{Cell}
 use Rattle.onig_match.specs.declared.cells.Cell.TheVariants.{Nodes, GroupEnd, Iteration}
@@ -15,12 +21,14 @@ use Rattle.onig_match.specs.declared.entries.Resume.{Resume}
 use Rattle.onig_match.specs.declared.entries.Resume.TheVariants.{Other, Alternatives, AfterAhead, AfterBehind}
 use Rattle.onig_match.specs.declared.entries.Resume.TheVariants.{AfterAtomic, GiveBack}
 use Rattle.onig_match.specs.declared.entries.Entry.{Entry}
+use Rattle.onig_match.specs.declared.entries.Passed.{Passed}
 use Rattle.onig_match.specs.declared.entries.Step.{Step}
 use Rattle.onig_match.specs.declared.entries.Step.TheVariants.{Go, Found, Failed}
 use Rattle.onig_match.specs.declared.entries.Visited.{Visited}
 use Rattle.onig_match.specs.declared.area.Area.{Area}
 use Rattle.onig_match.specs.declared.searched.Searched.{Searched}
-use Rattle.onig_match.specs.Machine.{subject, means, carried, todo_of, rank}
+use Rattle.onig_match.specs.Goes.{goes}
+use Rattle.onig_match.specs.Machine.{subject, resumed, means, carried, todo_of, rank}
 
 -- the rest of a list of the pattern, before one of the first cells
 pub record IsRest (tree : Tree) (cells : ℕ) (rest : Rest) : Type 0 where
@@ -129,11 +137,55 @@ pub record Visits (on : Searched) (old : Area) (answer : ℕ → Ran) (new : Are
   pub leads : Leads on (result.more + 1) old (λ left. answer (left + result.more)) new result.step
   pub spent : (left : ℕ) → left < result.more → answer left ≡ Spent
 
+-- going back, and so many visits in the same step
+pub record Returns (on : Searched) (old : Area) (answer : ℕ → Ran) (new : Area) (result : Visited) : Type 0 where
+  pub leads : Leads on result.more old (λ left. answer (left + result.more)) new result.step
+  pub spent : (left : ℕ) → left < result.more → answer left ≡ Spent
+
 -- so many characters, of those that hold, stand from a place on: as many as there are, or as may be
 pub record IsRun (p : ℕ → Bool) (text : List ℕ) (at : ℕ) (most : Option ℕ) (taken : ℕ) : Type 0 where
   pub all : (k : ℕ) → k < taken → is_char p (slice_get text (at + k)) ≡ true
   pub may : (k : ℕ) → k < taken → is_greatest most k ≡ false
   pub ends : is_greatest most taken ≡ false → is_char p (slice_get text (at + taken)) ≡ false
+
+-- nodes that begin with a single character that doesn't stand at a place
+pub record BeginsElse (nodes : List PatNode) (text : List ℕ) (at : ℕ) : Type 0 where
+  pub set : List CharRange
+  pub more : List PatNode
+  pub is : nodes ≡ One set ∷ more
+  pub ends : is_char (in_set set) (slice_get text at) ≡ false
+
+-- nodes that begin with a group that has this body
+pub record BeginsInGroup (nodes : List PatNode) (body : ListId) : Type 0 where
+  pub number : ℕ
+  pub more : List PatNode
+  pub is : nodes ≡ Group number body ∷ more
+
+-- a list that misses at a place after so many visits, whatever is still to match behind it
+pub record MissesEarly (s : Subject) (list : ListId) (at visits : ℕ) : Type 0 where
+  pub misses : (rest : List Todo) (captures : Captures) (left : ℕ) →
+      goes s (before s.lists list rest) at captures (left + visits) ≡ Miss left
+  pub spent : (rest : List Todo) (captures : Captures) (left : ℕ) → left < visits →
+      goes s (before s.lists list rest) at captures left ≡ Spent
+
+-- the alternatives from one number to another miss at a place, after so many visits
+pub record PassesWays (s : Subject) (ids : List ListId) (at way next more : ℕ) : Type 0 where
+  pub on : (rest : List Todo) (captures : Captures) (left : ℕ) →
+      tries (goes s) (map (λ id. before s.lists id rest) (drop way ids)) at captures (left + more)
+      ≡ tries (goes s) (map (λ id. before s.lists id rest) (drop next ids)) at captures left
+  pub spent : (rest : List Todo) (captures : Captures) (left : ℕ) → left < more →
+      tries (goes s) (map (λ id. before s.lists id rest) (drop way ids)) at captures left ≡ Spent
+
+-- an entry at which going on is the same, after so many visits
+pub record PassesEarly (s : Subject) (entry : Entry) (passed : Passed) : Type 0 where
+  pub resume : Resume
+  pub is : passed.entry ≡ record entry { resume = resume }
+  pub sound : (tree : Tree) (cells : ℕ) → IsResume tree cells entry.resume → IsResume tree cells resume
+  pub on : (cells : List Cell) (captures : Captures) (left : ℕ) →
+      resumed s cells captures entry.resume entry.at (Miss (left + passed.more))
+      ≡ resumed s cells captures resume entry.at (Miss left)
+  pub spent : (cells : List Cell) (captures : Captures) (left : ℕ) → left < passed.more →
+      resumed s cells captures entry.resume entry.at (Miss left) ≡ Spent
 
 -- at most a cell is added, which changes no end of the attempt
 pub record AddsCell (on : Searched) (old new : Area) : Type 0 where

@@ -47,6 +47,13 @@ pub(crate) struct Entry {
     pub(crate) trail: u32,
 }
 
+/// An entry where alternatives that miss at once were passed, and how many visits they took.
+#[derive(Clone, Copy, Debug, PartialEq, Eq)]
+pub(crate) struct Passed {
+    pub(crate) entry: Entry,
+    pub(crate) more: u64,
+}
+
 /// What is still to match, at a place.
 #[derive(Clone, Copy, Debug, PartialEq, Eq)]
 pub(crate) struct Point {

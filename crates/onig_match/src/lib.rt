@@ -31,9 +31,11 @@
 //! above that one are dropped, as their ways aren't wanted any more (`after_hit`); where it fails, the entry is reached
 //! by going back (`after_miss`). The alternatives of a choice are one entry that moves on from way to way.
 //!
-//! A greedy repeat of one single character is done in one step (`visit_run`): it takes all characters that it may, and
-//! their visits are charged at once, two for each and one for the look at which it ended. In the text `aab` the visits 1
-//! to 6 of `a*b` are one step, and leave one entry (`GiveBack`) that stands for the rest `b` at 1 and then at 0.
+//! A greedy repeat of one single character is done in one step (`visit_run`): it takes all characters that it may,
+//! and their visits are charged at once, two for each and one for the look at which it ended. In the text `aab` the
+//! visits 1 to 6 of `a*b` are one step, and leave one entry (`GiveBack`) that stands for the rest `b` at 1 and then
+//! at 0. So are the visits of alternatives, of one iteration more and of a lookahead's body that miss by their first
+//! character (`early_miss`): they make no cell and no entry.
 #![tactic(auto)]
 
 mod anchors;
@@ -41,6 +43,7 @@ mod area;
 mod backs;
 mod captures;
 mod cells;
+mod early;
 mod entries;
 pub mod laws;
 mod pile;

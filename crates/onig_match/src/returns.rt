@@ -2,11 +2,12 @@ ghost use Rattle.std.specs.Prelude.{◌≡◌, ◌+◌, ◌<◌, ◌≤◌, ◌^
 ghost use Rattle.pattern_defs.specs.declared.nodes.Arm.{Arm};
 ghost use Rattle.pattern_defs.specs.Attempt.{Hit, Miss};
 ghost use Rattle.onig_match.specs.Machine.{subject, ids_at, arms_at, carried, with_entry};
-ghost use Rattle.onig_match.specs.Sound.{IsSound, HasRoom, Leads, IsNextArm};
+ghost use Rattle.onig_match.specs.Sound.{IsSound, IsResume, HasRoom, Leads, Returns, PassesWays, PassesEarly, IsNextArm};
 
 use crate::area::{Area, go, start_of};
 use crate::cells::NodeAt;
-use crate::entries::{Entry, Resume, Step};
+use crate::early::early_miss;
+use crate::entries::{Entry, Passed, Resume, Step, Visited};
 use crate::searched::Searched;
 use pattern_defs::{Arm, ListId, PatNode};
 use pattern_tree::Pattern;
@@ -66,9 +67,73 @@ fn arm_within(pattern: &Pattern, node: NodeAt, arm: usize, at: u32) -> Option<(u
     }
 }
 
+/// An alternative from the number `way` on, and how many visits those before it took, which miss at once.
+#[derive(Clone, Copy, Debug, PartialEq, Eq)]
+struct Ways {
+    way: usize,
+    more: u64,
+}
+
+/// More visits than any budget has.
+const MANY: u64 = 0x1_0000_0000;
+
+/// The first alternative of a node from a number on that doesn't miss at once.
+fn pass_ways(on: &Searched<'_>, node: NodeAt, way: usize, at: u32) -> Ways
+    requires { node.list.0 < length on.now.pattern.now.lists }
+    ensures { PassesWays (subject on.now) (ids_at on.now.pattern.now.lists node) at way result.way result.more }
+{
+    let mut ways = Ways { way, more: 0 };
+    while ways.more < MANY {
+        let Some(id) = alternative(on.pattern, node, ways.way) else {
+            return ways;
+        };
+        let Some(more) = early_miss(on, id, at) else {
+            return ways;
+        };
+        ways.way += 1;
+        ways.more += more;
+    }
+    ways
+}
+
+/// An entry without the alternatives that miss at once.
+fn pass_early(on: &Searched<'_>, entry: Entry) -> Passed
+    requires { IsResume on.now.pattern.now entry.cells entry.resume }
+    ensures { PassesEarly (subject on.now) entry result }
+{
+    let Resume::Alternatives { node, way, next } = entry.resume else {
+        return Passed { entry, more: 0 };
+    };
+    let ways = pass_ways(on, node, way, entry.at);
+    let resume = Resume::Alternatives {
+        node,
+        way: ways.way,
+        next,
+    };
+    Passed {
+        entry: Entry { resume, ..entry },
+        more: ways.more,
+    }
+}
+
 impl Area {
+    /// Going back to an entry. Alternatives that miss at once are passed in the same step.
+    pub(crate) fn go_back(&mut self, on: &Searched<'_>, entry: Entry) -> Visited
+        requires sound { IsSound on.now (with_entry self.old entry) }
+        requires room { HasRoom (with_entry self.old entry) 0 }
+        ensures { Returns on.now (with_entry self.old entry)
+            (λ left. carried (subject on.now) (with_entry self.old entry) (Miss left)) self.new result }
+    {
+        let passed = pass_early(on, entry);
+        let step = self.after_miss(on, passed.entry);
+        Visited {
+            step,
+            more: passed.more,
+        }
+    }
+
     /// Where what was tried above an entry fails: everything is as it was at the entry, and the next way is tried.
-    pub(crate) fn after_miss(&mut self, on: &Searched<'_>, entry: Entry) -> Step
+    fn after_miss(&mut self, on: &Searched<'_>, entry: Entry) -> Step
         requires sound { IsSound on.now (with_entry self.old entry) }
         requires room { HasRoom (with_entry self.old entry) 0 }
         ensures { Leads on.now 0 (with_entry self.old entry)

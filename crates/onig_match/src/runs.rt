@@ -92,8 +92,8 @@ impl Area {
         requires here { IsHere on.now self.old rest at }
         requires body { nodes_of on.now.pattern.now.lists body ≡ One set.now ∷ [] }
         requires bounds { AreBounds bounds.least bounds.most }
-        ensures { Visits on.now self.old (acted on.now self.old (Node (Repeat body bounds.least bounds.most true)) rest at)
-            self.new result }
+        ensures { Visits on.now self.old
+            (acted on.now self.old (Node (Repeat body bounds.least bounds.most true)) rest at) self.new result }
     {
         let taken = run_length(set, on.text, at, bounds.most);
         let more = run_visits(taken, is_most(bounds.most, taken));

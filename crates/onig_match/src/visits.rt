@@ -1,9 +1,9 @@
-ghost use Rattle.std.specs.Prelude.{◌≡◌, ℕ, suc, ◌+◌, ◌-◌, ◌<◌, ◌≤◌, ◌^◌, length, slice_get, Option, Some, None, IsSome};
+ghost use Rattle.std.specs.Prelude.{◌≡◌, true, false, not, ℕ, suc, ◌+◌, ◌-◌, ◌<◌, ◌≤◌, ◌^◌, length, slice_get, Option, Some, None, IsSome};
 ghost use Rattle.char_sets.specs.Ranges.{in_set};
 ghost use Rattle.pattern_defs.specs.declared.nodes.PatNode.{PatNode};
 ghost use Rattle.pattern_defs.specs.declared.nodes.PatNode.TheVariants.{Choice, Group, Ahead, Behind, Atomic};
 ghost use Rattle.pattern_defs.specs.Patterns.{IsNode, nodes_of};
-ghost use Rattle.pattern_defs.specs.Attempt.{Node, Close, is_char, holds_at};
+ghost use Rattle.pattern_defs.specs.Attempt.{Node, Close, Again, is_char, is_greatest, holds_at};
 ghost use Rattle.onig_match.specs.Machine.{subject, step_where, ids_at, arms_at, acted, means, node_of, behind_node};
 ghost use Rattle.onig_match.specs.Sound.{IsHere, IsRest, IsSound, HasRoom, Leads, Visits};
 
@@ -11,8 +11,9 @@ use crate::anchors::holds;
 use crate::area::{Area, go, start_of};
 use crate::backs::steps_back;
 use crate::cells::{Cell, Front, NodeAt, Repeated, Rest};
+use crate::early::early_miss;
 use crate::entries::{Point, Resume, Step, Visited};
-use crate::runs::{Bounds, is_in, only_char};
+use crate::runs::{Bounds, is_in, is_most, only_char};
 use crate::searched::Searched;
 use char_sets::CharSet;
 use pattern_defs::{Anchor, ListId, PatNode, Place};
@@ -44,6 +45,29 @@ fn once(step: Step) -> Visited
     ensures { result ≡ record { step = step; more = 0 } }
 {
     Visited { step, more: 0 }
+}
+
+fn visited(step: Step, more: u64) -> Visited
+    ensures { result ≡ record { step = step; more = more } }
+{
+    Visited { step, more }
+}
+
+/// Whether a repeat may go on or be left out, after so many iterations.
+fn is_open(least: u32, most: Option<u32>, count: u32) -> bool
+    ensures { (result ≡ true) → (least ≤ count) × (is_greatest most count ≡ false) }
+{
+    if count < least {
+        return false;
+    }
+    !is_most(most, count)
+}
+
+/// Going on behind a lookahead that saw nothing.
+fn after_look(wanted: bool, rest: Rest, at: u32) -> Step
+    ensures { result ≡ step_where (not wanted) rest at }
+{
+    if wanted { Step::Failed } else { go(rest, at) }
 }
 
 /// The node at the start of the rest of a list.
@@ -205,8 +229,8 @@ impl Area {
         }
     }
 
-    /// A visit of the first of what is still to match, where it is a node. A greedy repeat of a single character is done
-    /// in one step.
+    /// A visit of the first of what is still to match, where it is a node. A greedy repeat of a single character is
+    /// done in one step, and so is what is left out since its first character isn't there.
     fn visit_first(&mut self, on: &Searched<'_>, node: &PatNode, here: Rest, at: u32) -> Visited
         requires here { IsHere on.now self.old here at }
         requires node { slice_get (nodes_of on.now.pattern.now.lists here.list) here.index ≡ Some node.now }
@@ -214,24 +238,56 @@ impl Area {
         requires index { here.index + 1 < 2 ^ 64 }
         ensures { Visits on.now self.old (acted on.now self.old (Node node.now) (behind_node here) at) self.new result }
     {
-        match node {
-            PatNode::Repeat {
-                body,
-                least,
-                most,
-                greedy: true,
-            } => match only_char(on.pattern.list(*body)) {
-                Some(set) => {
-                    let bounds = Bounds {
-                        least: *least,
-                        most: *most,
-                    };
-                    self.visit_run(on, set, *body, bounds, after_node(here), at)
+        if let PatNode::Repeat {
+            body,
+            least,
+            most,
+            greedy: true,
+        } = node
+        {
+            if let Some(set) = only_char(on.pattern.list(*body)) {
+                let bounds = Bounds {
+                    least: *least,
+                    most: *most,
+                };
+                return self.visit_run(on, set, *body, bounds, after_node(here), at);
+            }
+            if is_open(*least, *most, 0) {
+                if let Some(more) = early_miss(on, *body, at) {
+                    return visited(go(after_node(here), at), more);
                 }
-                None => once(self.visit_node(on, node, here, at)),
-            },
-            _ => once(self.visit_node(on, node, here, at)),
+            }
         }
+        if let PatNode::Ahead { body, wanted } = node {
+            if let Some(more) = early_miss(on, *body, at) {
+                return visited(after_look(*wanted, after_node(here), at), more);
+            }
+        }
+        once(self.visit_node(on, node, here, at))
+    }
+
+    /// The repeat that an iteration is of. It ends where one iteration more would miss at once.
+    fn visit_again(
+        &mut self,
+        on: &Searched<'_>,
+        repeat: Repeated,
+        count: u32,
+        begun: u32,
+        rest: Rest,
+        at: u32,
+    ) -> Visited
+        requires here { IsHere on.now self.old rest at }
+        requires body { repeat.body.0 < length on.now.pattern.now.lists }
+        requires count { count ≤ length self.old.cells.items }
+        ensures { Visits on.now self.old (acted on.now self.old
+            (Again repeat.body repeat.least repeat.most repeat.greedy count begun) rest at) self.new result }
+    {
+        if repeat.greedy && begun != at && is_open(repeat.least, repeat.most, count) {
+            if let Some(more) = early_miss(on, repeat.body, at) {
+                return visited(go(rest, at), more);
+            }
+        }
+        once(self.repeat(on, repeat, count, begun, rest, at))
     }
 
     /// One look at what is still to match, and those that follow it in the same step.
@@ -254,7 +310,7 @@ impl Area {
                 count,
                 begun,
                 rest,
-            } => once(self.repeat(on, repeat, count, begun, rest, point.at)),
+            } => self.visit_again(on, repeat, count, begun, rest, point.at),
         }
     }
 }

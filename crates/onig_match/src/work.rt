@@ -112,7 +112,14 @@ impl Area {
                     None => return End::Found(end),
                 },
                 Step::Failed => match self.entries.pop() {
-                    Some(entry) => self.after_miss(on, entry),
+                    Some(entry) => {
+                        let back = self.go_back(on, entry);
+                        if (left as u64) < back.more {
+                            return End::Spent;
+                        }
+                        left -= back.more as u32;
+                        back.step
+                    }
                     None => return End::Failed,
                 },
             };

@@ -1,6 +1,7 @@
 pub mod BoundLaws
 pub mod Budgets
 pub mod FrontLaws
+pub mod Idle
 pub mod LineLaws
 pub mod Places
 pub mod RowLaws

@@ -1,15 +1,11 @@
 -- Which attempts are spared at the places of a row.
-use Rattle.std.proofs.Common.{◌≡◌, ℕ, ◌+◌, ◌-◌, ◌<◌, ◌≤◌, Bool, true, false, List}
-use Rattle.std.proofs.Common.{Option, Some, None, refl}
+use Rattle.std.proofs.Common.{ℕ, ◌≤◌, List}
 use Rattle.std.proofs.Common.{arith}
-use Rattle.std.specs.Prelude.{nat_lt, slice_get, if◌then◌else◌}
+use Rattle.std.specs.Prelude.{slice_get}
 use Rattle.char_sets.specs.declared.char_set.CharRange.{CharRange}
-use Rattle.pattern_defs.specs.declared.outcomes.Flags.{Flags}
 use Rattle.pattern_defs.specs.Patterns.{Tree}
-use Rattle.pattern_defs.specs.Attempt.{Miss, attempt}
 use Rattle.onig_scan.specs.Fronts.{IsFrontOfAll}
-use Rattle.onig_scan.specs.Rows.{class_of, line_begins, IsScalarAt, HasNone, IsSparedAt, IsSparedInLine}
-use Rattle.onig_scan.specs.Rows.{IsSpared}
+use Rattle.onig_scan.specs.Rows.{HasNone, IsSparedAt, IsSparedInLine}
 
 pub more_in_line : (tree : Tree) (cost more : ℕ) → cost ≤ more → IsSparedInLine tree cost → IsSparedInLine tree more
 more_in_line tree cost more fits is = record

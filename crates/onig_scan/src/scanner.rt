@@ -1,6 +1,7 @@
-ghost use Rattle.std.specs.Prelude.{◌≡◌, ℕ, ◌+◌, ◌*◌, ◌<◌, ◌≤◌, ◌^◌, All, length, map, slice_get, IfNone, IfOk, IfSome, IsSomeAnd};
+ghost use Rattle.std.specs.Prelude.{◌≡◌, ℕ, ◌+◌, ◌*◌, ◌<◌, ◌≤◌, ◌^◌, All, length, map, slice_get, true, None, IfNone, IfOk, IfSome, IsSomeAnd};
 ghost use Rattle.std.specs.Rc.{rc_value};
-ghost use Rattle.pattern_defs.specs.FirstMatch.{first_match, captures_after};
+ghost use Rattle.pattern_defs.specs.declared.outcomes.Flags.{Flags};
+ghost use Rattle.pattern_defs.specs.FirstMatch.{pairs_at, first_of, first_match, captures_after};
 ghost use Rattle.pattern_defs.specs.Attempt.{capture_of};
 ghost use Rattle.onig_match.specs.Works.{IsPart};
 ghost use Rattle.onig_scan.specs.Answers.{IsAmong, IfAt};
@@ -228,6 +229,18 @@ impl Scanner {
         )
     }
 
+    /// Whether no pattern may match at a place, where a row is one word.
+    fn is_idle(&self, text: &[char], at: u32, budget: u32) -> bool
+        requires inside { at ≤ length text.now }
+        ensures { (result ≡ true) → (flags : Flags) →
+            first_of (pairs_at 0 self.now at) text.now flags budget ≡ None }
+    {
+        if self.words != 1 || budget < ROW_VISITS {
+            return false;
+        }
+        self.rows[row_at(text, at)] == 0
+    }
+
     /// The first match from a place on: places are tried in order, and at each the patterns in order. What the
     /// groups took, `work` tells. Places count characters. The order is that of Oniguruma's scanner in vscode-textmate.
     pub fn find(&self, work: &mut Work, text: &[char], from: u32, flags: Flags) -> Found
@@ -247,6 +260,9 @@ impl Scanner {
     {
         let end = text.len() as u32 + 1;
         for at in from..end {
+            if self.is_idle(text, at, work.budget()) {
+                continue;
+            }
             if let Some(found) = self.find_at(work, text, at, flags) {
                 return found;
             }

@@ -1,8 +1,9 @@
 use crate::searches::faults;
 use std::test::Fail;
 
-// Repeats of a single character, each with the visits that it takes and with one fewer, counted from the
-// definition: bounds, nested repeats, and giving back under groups, lookaround and atomic groups.
+// What is done in one step, each with the visits that it takes and with one fewer, counted from the definition:
+// repeats of a single character (their bounds, nested ones, giving back under groups, lookaround and atomic groups),
+// and repeats, lookahead and alternatives that miss by their first character.
 const RUNS: &str = "\
     a*ab¦aab¦0¦10¦A-¦0-3¶\
     a*ab¦aab¦0¦9¦A-¦spent¶\
@@ -52,10 +53,48 @@ const RUNS: &str = "\
     \\w+\\d¦ab1c¦0¦13¦A-¦spent¶\
     (\\w*)-\\1¦ab-a¦0¦14¦A-¦miss¶\
     (\\w*)-\\1¦ab-a¦0¦13¦A-¦spent¶\
+    (?:,a)*b¦,ab¦0¦7¦A-¦0-3¶\
+    (?:,a)*b¦,ab¦0¦6¦A-¦spent¶\
+    (?:,a)*b¦b¦0¦4¦A-¦0-1¶\
+    (?:,a)*b¦b¦0¦3¦A-¦spent¶\
+    (?:,a)*b¦,¦0¦4¦A-¦miss¶\
+    (?:,a)*b¦,¦0¦3¦A-¦spent¶\
+    (?:(a)b)?c¦c¦0¦5¦A-¦0-1 .¶\
+    (?:(a)b)?c¦c¦0¦4¦A-¦spent¶\
+    (?:(a)b)?c¦abc¦0¦8¦A-¦0-3 0-1¶\
+    (?:(a)b)?c¦abc¦0¦7¦A-¦spent¶\
+    (?:ab){1,2}c¦abc¦0¦7¦A-¦0-3¶\
+    (?:ab){1,2}c¦abc¦0¦6¦A-¦spent¶\
+    (?:ab){1,2}c¦ababc¦0¦9¦A-¦0-5¶\
+    (?:ab){1,2}c¦ababc¦0¦8¦A-¦spent¶\
+    (?:ab){1,2}c¦c¦0¦2¦A-¦miss¶\
+    (?:ab){1,2}c¦c¦0¦1¦A-¦spent¶\
+    (?:ab)*?c¦abc¦0¦7¦A-¦0-3¶\
+    (?:ab)*?c¦abc¦0¦6¦A-¦spent¶\
+    (?!ab)c¦c¦0¦4¦A-¦0-1¶\
+    (?!ab)c¦c¦0¦3¦A-¦spent¶\
+    (?=ab)c¦c¦0¦2¦A-¦miss¶\
+    (?=ab)c¦c¦0¦1¦A-¦spent¶\
+    (?!(a)b)c¦c¦0¦5¦A-¦0-1 .¶\
+    (?!(a)b)c¦c¦0¦4¦A-¦spent¶\
+    (?:ab|(b)a|c)d¦cd¦0¦7¦A-¦0-2 .¶\
+    (?:ab|(b)a|c)d¦cd¦0¦6¦A-¦spent¶\
+    (?:ab|(b)a|c)d¦bad¦0¦8¦A-¦0-3 0-1¶\
+    (?:ab|(b)a|c)d¦bad¦0¦7¦A-¦spent¶\
+    (?:ab|(b)a|c)d¦d¦0¦5¦A-¦miss¶\
+    (?:ab|(b)a|c)d¦d¦0¦4¦A-¦spent¶\
+    (?:a|b|c)+d¦cbad¦0¦19¦A-¦0-4¶\
+    (?:a|b|c)+d¦cbad¦0¦18¦A-¦spent¶\
+    (?:ab|ac|b)(?:x|d)¦acd¦0¦9¦A-¦0-3¶\
+    (?:ab|ac|b)(?:x|d)¦acd¦0¦8¦A-¦spent¶\
+    (?>(a)|b)c¦bc¦0¦8¦A-¦0-2 .¶\
+    (?>(a)|b)c¦bc¦0¦7¦A-¦spent¶\
 ";
 
 #[test]
-fn runs_of_a_character_take_the_visits_that_their_table_says(rt: HostRuntime) -> Result<(), Fail> {
-    assert_eq!(rt; faults(rt.alloc(), RUNS, 48)?.as_str(), "");
+fn what_is_done_in_one_step_takes_the_visits_that_its_table_says(
+    rt: HostRuntime,
+) -> Result<(), Fail> {
+    assert_eq!(rt; faults(rt.alloc(), RUNS, 84)?.as_str(), "");
     Ok(())
 }

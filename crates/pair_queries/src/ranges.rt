@@ -4,7 +4,7 @@ ghost use Rattle.text_defs.specs.Text.{lines_of, line_count};
 ghost use Rattle.answer_defs.specs.PairAnswers.{mark_at, reaches_lines, pair_row, pairs_in, indentation, indentation_of, tab_stop, has_guide, guide_row, guides_of_line, guides_in};
 
 use crate::places::{is_opener, partner_of};
-use answer_defs::{GuideRow, GuideRows, MarkAt, PairRow, PairRows};
+use answer_defs::{GuideRow, GuideRows, MOST_TAB, MarkAt, PairRow, PairRows};
 use line_text::Text;
 use pairing_defs::Row;
 use std::alloc::{AllocError, Global};
@@ -62,7 +62,7 @@ pub fn guides(
     to: u32,
 ) -> Result<GuideRows, AllocError>
     requires some { 1 ≤ tab }
-    requires few { tab ≤ 32 }
+    requires few { tab ≤ MOST_TAB }
     requires last { to < line_count text.now }
     ensures { IfOk result (λ found. found ≡ guides_in tab (lines_of text.now) rows.now from to) }
 {
@@ -84,7 +84,7 @@ fn add_guides(
     line: u32,
 ) -> Result<(), AllocError>
     requires some { 1 ≤ tab }
-    requires few { tab ≤ 32 }
+    requires few { tab ≤ MOST_TAB }
     ensures { OnOk result (found.new ≡ found.old ++ guides_of_line tab (lines_of text.now) rows.now line) }
 {
     for row in rows {
@@ -103,7 +103,7 @@ fn has_guide(row: &Row, line: u32) -> bool
 
 fn guide_row(row: &Row, text: &Text, tab: u32, line: u32) -> GuideRow
     requires some { 1 ≤ tab }
-    requires few { tab ≤ 32 }
+    requires few { tab ≤ MOST_TAB }
     ensures { result ≡ guide_row tab (lines_of text.now) line row.now }
 {
     let opener = indentation_of(text, tab, row.mark.at.line);
@@ -118,7 +118,7 @@ fn guide_row(row: &Row, text: &Text, tab: u32, line: u32) -> GuideRow
 /// The indentation of a line, and 0 where there is no such line.
 fn indentation_of(text: &Text, tab: u32, line: u32) -> u32
     requires some { 1 ≤ tab }
-    requires few { tab ≤ 32 }
+    requires few { tab ≤ MOST_TAB }
     ensures { result ≡ indentation_of tab (lines_of text.now) line }
 {
     if line < text.lines() {
@@ -131,7 +131,7 @@ fn indentation_of(text: &Text, tab: u32, line: u32) -> u32
 /// How far the spaces and tabs at the front of a line reach.
 fn indentation(line: &[char], tab: u32) -> u32
     requires some { 1 ≤ tab }
-    requires few { tab ≤ 32 }
+    requires few { tab ≤ MOST_TAB }
     requires short { length line.now ≤ 2 ^ 22 }
     ensures { result ≡ indentation tab line.now }
 {
@@ -149,7 +149,7 @@ fn indentation(line: &[char], tab: u32) -> u32
 /// The next column that is a multiple of `tab`.
 fn tab_stop(tab: u32, column: u32) -> u32
     requires some { 1 ≤ tab }
-    requires few { tab ≤ 32 }
+    requires few { tab ≤ MOST_TAB }
     requires near { column ≤ 2 ^ 27 }
     ensures stop { result ≡ tab_stop tab column }
     ensures near { result ≤ column + tab }

@@ -8,6 +8,8 @@ use Rattle.script_words.specs.declared.command.Command.{Command}
 use Rattle.script_words.specs.declared.command.Command.TheVariants.{Edit, Turn, Ask}
 use Rattle.text_defs.specs.Text.{is_utf8, most_line_bytes, most_lines}
 use Rattle.text_defs.specs.Batch.{TextEdit}
+use Rattle.text_pos.specs.declared.length.Pos.{Pos}
+use Rattle.answer_defs.specs.declared.answer.Question.{Question}
 use Rattle.answer_defs.specs.declared.answer.Question.TheVariants as question
 use Rattle.script_words.specs.declared.refusal.Refusal.{Refusal}
 use Rattle.script_words.specs.declared.refusal.Refusal.TheVariants as refusal
@@ -97,13 +99,28 @@ is_turn k = nat_lt 0 k && nat_le k most_lines
 abbrev pub turn_of : ℕ → Option Command
 turn_of k = if is_turn k then Some (Turn k) else None
 
+-- a question about a place
+abbrev pub place_question : List ℕ → Pos → Option Question
+place_question key at =
+    if bytes_eq key (codes "match") then Some (question.Match at)
+    else (if bytes_eq key (codes "around") then Some (question.Around at)
+    else (if bytes_eq key (codes "jump") then Some (question.Jump at)
+    else (if bytes_eq key (codes "level") then Some (question.Level at) else None)))
+
+-- a question with two numbers: the first and the last line of a range, or the line and the column of a place
+abbrev pub pair_question : List ℕ → ℕ × ℕ → Option Question
+pair_question key p =
+    if bytes_eq key (codes "brackets") then Some (question.Brackets p.0 p.1)
+    else (if bytes_eq key (codes "pairs") then Some (question.Pairs p.0 p.1)
+    else (if bytes_eq key (codes "guides") then Some (question.Guides p.0 p.1)
+    else place_question key (record { line = p.0; col = p.1 })))
+
 -- a question, or a turn
 abbrev pub numbers_command : List ℕ → Data → Option Command
 numbers_command key d =
-    if bytes_eq key (codes "brackets") then option_map (λ p. Ask (question.Brackets p.0 p.1)) (pair_in d)
-    else (if bytes_eq key (codes "line") then option_map (λ n. Ask (question.Line n)) (number_in d)
+    if bytes_eq key (codes "line") then option_map (λ n. Ask (question.Line n)) (number_in d)
     else (if bytes_eq key (codes "turn") then option_and_then turn_of (number_in d)
-    else None))
+    else option_map Ask (option_and_then (pair_question key) (pair_in d)))
 
 -- the command of an object with this one member
 abbrev pub member_command : List ℕ → Data → Option Command

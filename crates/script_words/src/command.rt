@@ -2,7 +2,7 @@ ghost use Rattle.std.specs.Prelude.{◌≡◌, IfOk, IsErrOf, option_map, Some, 
 ghost use Rattle.std.specs.Str.{chars};
 ghost use Rattle.serde_json.specs.View.{view, items_view};
 ghost use Rattle.script_words.specs.declared.refusal.Refusal.TheVariants as refusal;
-ghost use Rattle.script_words.specs.Script.{both, meaning_of, json_of, refused, command, command_in, member_command, numbers_command, only_member, number_in, pair_in, turn_of, edit_in, edits_in, edits_of_items};
+ghost use Rattle.script_words.specs.Script.{both, meaning_of, json_of, refused, command, command_in, member_command, numbers_command, pair_question, place_question, only_member, number_in, pair_in, turn_of, edit_in, edits_in, edits_of_items};
 
 use answer_defs::Question;
 use line_text::{Edit, Edits};
@@ -98,14 +98,58 @@ fn member_command(alloc: Global, key: &str, member: &Value) -> Result<Option<Com
 fn numbers_command(key: &str, member: &Value) -> Option<Command>
     ensures { result ≡ numbers_command key.now (view member.now) }
 {
-    if key == "brackets" {
-        let (from, to) = pair_in(member)?;
-        Some(Command::Ask(Question::Brackets { from, to }))
-    } else if key == "line" {
+    if key == "line" {
         let line = number_in(member)?;
         Some(Command::Ask(Question::Line { line }))
     } else if key == "turn" {
         turn_of(number_in(member)?)
+    } else {
+        let (first, second) = pair_in(member)?;
+        Some(Command::Ask(pair_question(key, first, second)?))
+    }
+}
+
+/// A question with two numbers: a range of lines, or the line and the column of a place.
+fn pair_question(key: &str, first: u32, second: u32) -> Option<Question>
+    ensures { result ≡ pair_question key.now (first, second) }
+{
+    if key == "brackets" {
+        Some(Question::Brackets {
+            from: first,
+            to: second,
+        })
+    } else if key == "pairs" {
+        Some(Question::Pairs {
+            from: first,
+            to: second,
+        })
+    } else if key == "guides" {
+        Some(Question::Guides {
+            from: first,
+            to: second,
+        })
+    } else {
+        place_question(
+            key,
+            Pos {
+                line: first,
+                col: second,
+            },
+        )
+    }
+}
+
+fn place_question(key: &str, at: Pos) -> Option<Question>
+    ensures { result ≡ place_question key.now at }
+{
+    if key == "match" {
+        Some(Question::Match { at })
+    } else if key == "around" {
+        Some(Question::Around { at })
+    } else if key == "jump" {
+        Some(Question::Jump { at })
+    } else if key == "level" {
+        Some(Question::Level { at })
     } else {
         None
     }

@@ -5,7 +5,9 @@ pub mod command;
 pub mod refusal;
 pub mod reply;
 
-pub use answer_defs::{Answer, BracketRow, MarkAt, Question, Rows};
+pub use answer_defs::{
+    Answer, BracketRow, GuideRow, GuideRows, MarkAt, PairRow, PairRows, Question, Rows, Twin,
+};
 pub use command::{Command, CommandRefusal};
 pub use line_text::{Edit, Edits};
 pub use refusal::Refusal;

@@ -17,4 +17,6 @@ pub enum Refusal {
     Lines,
     /// A question's lines aren't there, aren't in order, or are too many.
     Line,
+    /// A question's place is behind the end of its line.
+    Place,
 }

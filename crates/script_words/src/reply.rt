@@ -1,13 +1,13 @@
 ghost use Rattle.std.specs.Prelude.{◌≡◌, map, IfOk, encode_utf8_all};
 ghost use Rattle.serde_json.specs.Data.{array, string, boolean, object, member, no_members};
 ghost use Rattle.serde_json.specs.View.{view, items_of};
-ghost use Rattle.script_words.specs.ReplyText.{answer_data, chars_data, reply_data, reply_text, row_data, rows_data, word_of};
+ghost use Rattle.script_words.specs.ReplyText.{answer_data, chars_data, guide_data, guides_data, mark_data, or_null, pair_data, pairs_data, place_data, reply_data, reply_text, row_data, rows_data, span_data, twin_data, word_of};
 
 use crate::refusal::Refusal;
-use answer_defs::{Answer, BracketRow};
+use answer_defs::{Answer, BracketRow, GuideRow, MarkAt, PairRow, Twin};
 use serde_json::{Value, json};
 use std::alloc::{AllocError, Global};
-use text_pos::Bytes;
+use text_pos::{Bytes, Pos, Span};
 
 /// What is written for a script line, and before the first. The replies are this project's own.
 #[derive(Debug, Drop)]
@@ -60,6 +60,7 @@ fn word_of(why: Refusal) -> &'static str
         Refusal::Chars => "chars",
         Refusal::Lines => "lines",
         Refusal::Line => "line",
+        Refusal::Place => "place",
     }
 }
 
@@ -71,10 +72,31 @@ fn answer_value(alloc: Global, answer: &Answer) -> Result<Value, AllocError>
             let list = rows_value(alloc, rows.as_slice())?;
             json!(in alloc; {"brackets": list})
         }
+        Answer::Pairs(pairs) => {
+            let list = pairs_value(alloc, pairs.as_slice())?;
+            json!(in alloc; {"pairs": list})
+        }
+        Answer::Guides(guides) => {
+            let list = guides_value(alloc, guides.as_slice())?;
+            json!(in alloc; {"guides": list})
+        }
         Answer::Line(chars) => {
             let text = text_value(alloc, chars.as_slice())?;
             json!(in alloc; {"line": text})
         }
+        Answer::Match(twin) => {
+            let both = twin_or_null(alloc, twin)?;
+            json!(in alloc; {"match": both})
+        }
+        Answer::Around(twin) => {
+            let both = twin_or_null(alloc, twin)?;
+            json!(in alloc; {"around": both})
+        }
+        Answer::Jump(place) => {
+            let place = place_or_null(alloc, place)?;
+            json!(in alloc; {"jump": place})
+        }
+        Answer::Level(level) => json!(in alloc; {"level": *level}),
     }
 }
 
@@ -103,4 +125,87 @@ fn text_value(alloc: Global, chars: &[char]) -> Result<Value, AllocError>
         text.push(*c)?;
     }
     Ok(Value::String(text))
+}
+
+fn pairs_value(alloc: Global, pairs: &[PairRow]) -> Result<Value, AllocError>
+    ensures { IfOk result (λ v. view v ≡ pairs_data pairs.now) }
+{
+    let mut list = Vec::new(alloc);
+    for pair in pairs {
+        list.push(pair_value(alloc, pair)?)?;
+    }
+    Ok(Value::Array(list))
+}
+
+fn pair_value(alloc: Global, pair: &PairRow) -> Result<Value, AllocError>
+    ensures { IfOk result (λ v. view v ≡ pair_data pair.now) }
+{
+    let opener = mark_value(alloc, &pair.opener)?;
+    let closer = mark_or_null(alloc, &pair.closer)?;
+    json!(in alloc; [opener, closer, pair.level, pair.own])
+}
+
+fn mark_or_null(alloc: Global, mark: &Option<MarkAt>) -> Result<Value, AllocError>
+    ensures { IfOk result (λ v. view v ≡ or_null mark_data mark.now) }
+{
+    match mark {
+        Some(mark) => mark_value(alloc, mark),
+        None => Ok(Value::Null),
+    }
+}
+
+fn mark_value(alloc: Global, mark: &MarkAt) -> Result<Value, AllocError>
+    ensures { IfOk result (λ v. view v ≡ mark_data mark.now) }
+{
+    json!(in alloc; [mark.line, mark.from, mark.to])
+}
+
+fn guides_value(alloc: Global, guides: &[GuideRow]) -> Result<Value, AllocError>
+    ensures { IfOk result (λ v. view v ≡ guides_data guides.now) }
+{
+    let mut list = Vec::new(alloc);
+    for guide in guides {
+        list.push(guide_value(alloc, guide)?)?;
+    }
+    Ok(Value::Array(list))
+}
+
+fn guide_value(alloc: Global, guide: &GuideRow) -> Result<Value, AllocError>
+    ensures { IfOk result (λ v. view v ≡ guide_data guide.now) }
+{
+    json!(in alloc; [guide.line, guide.column, guide.level])
+}
+
+fn twin_or_null(alloc: Global, twin: &Option<Twin>) -> Result<Value, AllocError>
+    ensures { IfOk result (λ v. view v ≡ or_null twin_data twin.now) }
+{
+    match twin {
+        Some(twin) => twin_value(alloc, twin),
+        None => Ok(Value::Null),
+    }
+}
+
+fn twin_value(alloc: Global, twin: &Twin) -> Result<Value, AllocError>
+    ensures { IfOk result (λ v. view v ≡ twin_data twin.now) }
+{
+    let first = span_value(alloc, &twin.first)?;
+    let second = span_value(alloc, &twin.second)?;
+    json!(in alloc; [first, second])
+}
+
+fn span_value(alloc: Global, span: &Span) -> Result<Value, AllocError>
+    ensures { IfOk result (λ v. view v ≡ span_data span.now) }
+{
+    let from = span.from;
+    let to = span.to;
+    json!(in alloc; [from.line, from.col, to.col])
+}
+
+fn place_or_null(alloc: Global, place: &Option<Pos>) -> Result<Value, AllocError>
+    ensures { IfOk result (λ v. view v ≡ or_null place_data place.now) }
+{
+    match place {
+        Some(place) => json!(in alloc; [place.line, place.col]),
+        None => Ok(Value::Null),
+    }
 }

@@ -1,9 +1,10 @@
 use script_words::{
-    Answer, BracketRow, Command, CommandRefusal, MarkAt, Question, Refusal, Reply, Rows,
+    Answer, BracketRow, Command, CommandRefusal, GuideRow, GuideRows, MarkAt, PairRow, PairRows,
+    Question, Refusal, Reply, Rows, Twin,
 };
 use std::alloc::{AllocError, Global};
 use std::test::Fail;
-use text_pos::{Bytes, Chars};
+use text_pos::{Bytes, Chars, Pos, Span};
 
 /// What a line means, in words: a question or a turn and its numbers, the edits with their places and texts,
 /// or why it is refused.
@@ -26,18 +27,39 @@ fn meaning(alloc: Global, line: &[u8]) -> Result<String, AllocError> {
             Ok(text)
         }
         Ok(Command::Turn(lines)) => format!(in alloc; "turn {lines}"),
-        Ok(Command::Ask(Question::Brackets { from, to })) => {
-            format!(in alloc; "brackets {from} {to}")
-        }
-        Ok(Command::Ask(Question::Line { line })) => format!(in alloc; "line {line}"),
+        Ok(Command::Ask(question)) => asked(alloc, question),
         Err(CommandRefusal::Json) => String::from_str(alloc, "json"),
         Err(CommandRefusal::Command) => String::from_str(alloc, "command"),
         Err(CommandRefusal::Memory(error)) => Err(error),
     }
 }
 
+/// A question in words, with its numbers.
+fn asked(alloc: Global, question: Question) -> Result<String, AllocError> {
+    match question {
+        Question::Brackets { from, to } => format!(in alloc; "brackets {from} {to}"),
+        Question::Pairs { from, to } => format!(in alloc; "pairs {from} {to}"),
+        Question::Guides { from, to } => format!(in alloc; "guides {from} {to}"),
+        Question::Line { line } => format!(in alloc; "line {line}"),
+        Question::Match { at } => format!(in alloc; "match {}:{}", at.line, at.col),
+        Question::Around { at } => format!(in alloc; "around {}:{}", at.line, at.col),
+        Question::Jump { at } => format!(in alloc; "jump {}:{}", at.line, at.col),
+        Question::Level { at } => format!(in alloc; "level {}:{}", at.line, at.col),
+    }
+}
+
 /// Lines of a script, and what each means.
-const LINES: [(&[u8], &str); 53] = [
+const LINES: [(&[u8], &str); 63] = [
+    (b"{\"pairs\":[1,2]}", "pairs 1 2"),
+    (b"{\"guides\":[2,1]}", "guides 2 1"),
+    (b"{\"match\":[1,4294967295]}", "match 1:4294967295"),
+    (b"{\"around\":[1,2]}", "around 1:2"),
+    (b"{\"jump\":[0,0]}", "jump 0:0"),
+    (b"{\"level\":[3,4]}", "level 3:4"),
+    (b"{\"level\":[0,-1]}", "command"),
+    (b"{\"match\":1}", "command"),
+    (b"{\"jump\":[1,2,3]}", "command"),
+    (b"{\"tokens\":0}", "command"),
     (b"{\"brackets\":[0,0]}", "brackets 0 0"),
     (b"{\"brackets\":[5,2]}", "brackets 5 2"),
     (
@@ -158,73 +180,192 @@ fn two_rows(alloc: Global) -> Result<Rows, AllocError> {
     Ok(rows)
 }
 
+/// Two brackets of two characters and of one, on these lines.
+fn twin(first: u32, second: u32) -> Twin {
+    Twin {
+        first: Span {
+            from: Pos {
+                line: first,
+                col: 5,
+            },
+            to: Pos {
+                line: first,
+                col: 7,
+            },
+        },
+        second: Span {
+            from: Pos {
+                line: second,
+                col: 8,
+            },
+            to: Pos {
+                line: second,
+                col: 9,
+            },
+        },
+    }
+}
+
+fn mark(line: u32, from: u32, to: u32) -> MarkAt {
+    MarkAt { line, from, to }
+}
+
+/// A closed pair, and one without closer.
+fn two_pairs(alloc: Global) -> Result<PairRows, AllocError> {
+    let mut pairs = PairRows::new(alloc);
+    pairs.push(PairRow {
+        opener: mark(1, 2, 3),
+        closer: Some(mark(4, 5, 6)),
+        level: 7,
+        own: 8,
+    })?;
+    pairs.push(PairRow {
+        opener: mark(9, 0, 1),
+        closer: None,
+        level: 2,
+        own: 3,
+    })?;
+    Ok(pairs)
+}
+
+fn two_guides(alloc: Global) -> Result<GuideRows, AllocError> {
+    let mut guides = GuideRows::new(alloc);
+    guides.push(GuideRow {
+        line: 1,
+        column: 2,
+        level: 3,
+    })?;
+    guides.push(GuideRow {
+        line: 4,
+        column: 5,
+        level: 6,
+    })?;
+    Ok(guides)
+}
+
+/// Whether a reply is written so.
+fn is_written(alloc: Global, reply: &Reply, want: &str) -> Result<bool, AllocError> {
+    let line = reply.write(alloc)?;
+    Ok(line.as_slice() == want.as_bytes())
+}
+
 #[test]
-fn replies_are_written_letter_by_letter(rt: HostRuntime) -> Result<(), Fail> {
+fn replies_to_commands_are_written_letter_by_letter(rt: HostRuntime) -> Result<(), Fail> {
     let alloc = rt.alloc();
+    let opened = Reply::Opened {
+        lines: 1,
+        unread: 0,
+    };
+    assert!(rt; is_written(alloc, &opened, "{\"opened\":1,\"unread\":0}\n")?);
+    let opened = Reply::Opened {
+        lines: 262144,
+        unread: 4294967295,
+    };
+    assert!(rt;
+        is_written(
+            alloc,
+            &opened,
+            "{\"opened\":262144,\"unread\":4294967295}\n"
+        )?
+    );
+    assert!(rt; is_written(alloc, &Reply::Edited(1), "{\"edited\":1}\n")?);
+    assert!(rt; is_written(alloc, &Reply::Edited(262144), "{\"edited\":262144}\n")?);
+    assert!(rt; is_written(alloc, &Reply::Turned, "{\"turned\":true}\n")?);
+    Ok(())
+}
+
+#[test]
+fn refusals_are_written_as_their_words(rt: HostRuntime) -> Result<(), Fail> {
+    let alloc = rt.alloc();
+    for (why, want) in [
+        (Refusal::Long, "{\"refused\":\"long\"}\n"),
+        (Refusal::Json, "{\"refused\":\"json\"}\n"),
+        (Refusal::Command, "{\"refused\":\"command\"}\n"),
+        (Refusal::Range, "{\"refused\":\"range\"}\n"),
+        (Refusal::Order, "{\"refused\":\"order\"}\n"),
+        (Refusal::Chars, "{\"refused\":\"chars\"}\n"),
+        (Refusal::Lines, "{\"refused\":\"lines\"}\n"),
+        (Refusal::Line, "{\"refused\":\"line\"}\n"),
+        (Refusal::Place, "{\"refused\":\"place\"}\n"),
+    ] {
+        assert!(rt; is_written(alloc, &Reply::Refused(why), want)?, "{want}");
+    }
+    Ok(())
+}
+
+/// Whether an answer is written so.
+fn is_answered(alloc: Global, answer: Answer, want: &str) -> Result<bool, AllocError> {
+    is_written(alloc, &Reply::Answered(answer), want)
+}
+
+#[test]
+fn rows_are_written_letter_by_letter(rt: HostRuntime) -> Result<(), Fail> {
+    let alloc = rt.alloc();
+    let none = Answer::Brackets(Rows::new(alloc));
+    assert!(rt; is_answered(alloc, none, "{\"brackets\":[]}\n")?);
+    let two = Answer::Brackets(two_rows(alloc)?);
+    assert!(rt;
+        is_answered(
+            alloc,
+            two,
+            "{\"brackets\":[[0,1,2,3,4,5],[4294967295,8,4294967295,10,0,6]]}\n"
+        )?
+    );
+    let pairs = Answer::Pairs(two_pairs(alloc)?);
+    assert!(rt;
+        is_answered(
+            alloc,
+            pairs,
+            "{\"pairs\":[[[1,2,3],[4,5,6],7,8],[[9,0,1],null,2,3]]}\n"
+        )?
+    );
+    let guides = Answer::Guides(two_guides(alloc)?);
+    assert!(rt; is_answered(alloc, guides, "{\"guides\":[[1,2,3],[4,5,6]]}\n")?);
+    Ok(())
+}
+
+#[test]
+fn characters_are_written_letter_by_letter(rt: HostRuntime) -> Result<(), Fail> {
+    let alloc = rt.alloc();
+    let none = Chars::new(alloc);
+    assert!(rt; is_answered(alloc, Answer::Line(none), "{\"line\":\"\"}\n")?);
     let plain = Chars::of(
         alloc,
         &['a', '/', '\u{7f}', '\u{e9}', '\u{feff}', '\u{1f600}'],
     )?;
+    assert!(rt;
+        is_answered(
+            alloc,
+            Answer::Line(plain),
+            "{\"line\":\"a/\u{7f}\u{e9}\u{feff}\u{1f600}\"}\n"
+        )?
+    );
     let escaped = Chars::of(
         alloc,
         &['"', '\\', '\t', '\u{8}', '\u{c}', '\r', '\u{0}', '\u{1f}'],
     )?;
-    let cases: [(Reply, &str); 18] = [
-        (
-            Reply::Opened {
-                lines: 1,
-                unread: 0,
-            },
-            "{\"opened\":1,\"unread\":0}\n",
-        ),
-        (
-            Reply::Opened {
-                lines: 262144,
-                unread: 4294967295,
-            },
-            "{\"opened\":262144,\"unread\":4294967295}\n",
-        ),
-        (Reply::Edited(1), "{\"edited\":1}\n"),
-        (Reply::Edited(262144), "{\"edited\":262144}\n"),
-        (Reply::Turned, "{\"turned\":true}\n"),
-        (Reply::Refused(Refusal::Long), "{\"refused\":\"long\"}\n"),
-        (Reply::Refused(Refusal::Json), "{\"refused\":\"json\"}\n"),
-        (
-            Reply::Refused(Refusal::Command),
-            "{\"refused\":\"command\"}\n",
-        ),
-        (Reply::Refused(Refusal::Range), "{\"refused\":\"range\"}\n"),
-        (Reply::Refused(Refusal::Order), "{\"refused\":\"order\"}\n"),
-        (Reply::Refused(Refusal::Chars), "{\"refused\":\"chars\"}\n"),
-        (Reply::Refused(Refusal::Lines), "{\"refused\":\"lines\"}\n"),
-        (Reply::Refused(Refusal::Line), "{\"refused\":\"line\"}\n"),
-        (
-            Reply::Answered(Answer::Brackets(Rows::new(alloc))),
-            "{\"brackets\":[]}\n",
-        ),
-        (
-            Reply::Answered(Answer::Brackets(two_rows(alloc)?)),
-            "{\"brackets\":[[0,1,2,3,4,5],[4294967295,8,4294967295,10,0,6]]}\n",
-        ),
-        (
-            Reply::Answered(Answer::Line(Chars::new(alloc))),
-            "{\"line\":\"\"}\n",
-        ),
-        (
-            Reply::Answered(Answer::Line(plain)),
-            "{\"line\":\"a/\u{7f}\u{e9}\u{feff}\u{1f600}\"}\n",
-        ),
-        (
-            Reply::Answered(Answer::Line(escaped)),
-            "{\"line\":\"\\\"\\\\\\t\\b\\f\\r\\u0000\\u001f\"}\n",
-        ),
-    ];
-    for (reply, want) in cases {
-        assert_eq!(rt;
-            reply.write(alloc)?.as_slice(),
-            want.as_bytes(),
-            "of {want}"
-        );
-    }
+    assert!(rt;
+        is_answered(
+            alloc,
+            Answer::Line(escaped),
+            "{\"line\":\"\\\"\\\\\\t\\b\\f\\r\\u0000\\u001f\"}\n"
+        )?
+    );
+    Ok(())
+}
+
+#[test]
+fn places_are_written_letter_by_letter(rt: HostRuntime) -> Result<(), Fail> {
+    let alloc = rt.alloc();
+    assert!(rt; is_answered(alloc, Answer::Match(None), "{\"match\":null}\n")?);
+    let both = Answer::Match(Some(twin(3, 4)));
+    assert!(rt; is_answered(alloc, both, "{\"match\":[[3,5,7],[4,8,9]]}\n")?);
+    let around = Answer::Around(Some(twin(0, 4294967295)));
+    assert!(rt; is_answered(alloc, around, "{\"around\":[[0,5,7],[4294967295,8,9]]}\n")?);
+    let place = Answer::Jump(Some(Pos { line: 7, col: 0 }));
+    assert!(rt; is_answered(alloc, place, "{\"jump\":[7,0]}\n")?);
+    assert!(rt; is_answered(alloc, Answer::Jump(None), "{\"jump\":null}\n")?);
+    let level = Answer::Level(4294967295);
+    assert!(rt; is_answered(alloc, level, "{\"level\":4294967295}\n")?);
     Ok(())
 }

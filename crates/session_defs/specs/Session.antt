@@ -25,6 +25,7 @@ pub record Step : Type 0 where
 -- the word for why a question is refused
 abbrev pub refusal_of_question : QuestionRefusal → Refusal
 refusal_of_question (cause.Line lines) = refusal.Line
+refusal_of_question (cause.Place length) = refusal.Place
 
 abbrev pub answered : Settings → List ℕ → Question → Option QuestionRefusal → Reply
 answered settings text q None = reply.Answered (answer_of settings text q)

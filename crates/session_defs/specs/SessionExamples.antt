@@ -242,3 +242,23 @@ pub edits_of_a_session :
     ≡ line "{\"opened\":1,\"unread\":0}" ++ line "{\"edited\":1}" ++ line "{\"refused\":\"order\"}" ++ line "{\"edited\":1}" ++ line "{\"line\":\"xbyy\"}"
 unfolding serde_json_on_literals chars is_utf8 utf8_valid_len encode digits words_on_literals
 edits_of_a_session = refl
+
+-- the bracket at a place, the pair around it and where to jump; a place behind its line and a line that isn't there
+pub session_of_places :
+    output_of (limits_with 200) (codes "()")
+    (line "{\"match\":[0,1]}" ++ line "{\"around\":[0,1]}" ++ line "{\"jump\":[0,2]}" ++ line "{\"around\":[0,0]}" ++ line "{\"level\":[0,1]}"
+    ++ line "{\"level\":[0,3]}" ++ line "{\"match\":[1,9]}")
+    ≡ line "{\"opened\":1,\"unread\":0}" ++ line "{\"match\":[[0,1,2],[0,0,1]]}" ++ line "{\"around\":[[0,0,1],[0,1,2]]}" ++ line "{\"jump\":[0,0]}"
+    ++ line "{\"around\":null}" ++ line "{\"level\":1}" ++ line "{\"refused\":\"place\"}" ++ line "{\"refused\":\"line\"}"
+unfolding serde_json_on_literals chars is_utf8 utf8_valid_len encode digits words_on_literals
+session_of_places = refl
+
+-- pairs that reach into a line, the last without closer, and guides
+pub session_of_pairs_and_guides :
+    output_of (limits_with 200) (line "{" ++ line "  (a" ++ line "  )[" ++ codes "}")
+    (line "{\"pairs\":[2,2]}" ++ line "{\"guides\":[0,3]}" ++ line "{\"pairs\":[2,1]}" ++ line "{\"jump\":[3,1]}")
+    ≡ line "{\"opened\":4,\"unread\":0}"
+    ++ line "{\"pairs\":[[[0,0,1],[3,0,1],0,0],[[1,2,3],[2,2,3],1,0],[[2,3,4],null,1,0]]}"
+    ++ line "{\"guides\":[[1,0,0],[2,0,0],[2,2,1],[3,0,0]]}" ++ line "{\"refused\":\"line\"}" ++ line "{\"jump\":[0,0]}"
+unfolding serde_json_on_literals chars is_utf8 utf8_valid_len encode digits words_on_literals
+session_of_pairs_and_guides = refl

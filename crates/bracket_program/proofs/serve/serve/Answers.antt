@@ -134,3 +134,11 @@ returns-clause-ends g c =
     let full : c.loop-taken.taken ≡ most_script_bytes =
     omega (arith, c.loop-taken.invariant.few, c.loop-taken-test.false) in
     (serving-cut serving c.loop-taken.invariant.few refl refl refl, serving.count ∙ full, serving.reads_stand)
+
+pub returns-in_err-cutter-clause-ends : goal.returns-in_err-cutter-clause-ends
+returns-in_err-cutter-clause-ends g c =
+    let before = outside (g.S.Source.left c.args.script.now) (g.K.Sink.held c.args.sink.now)
+    (g.S.Source.faults c.args.script.now) (g.K.Sink.faults c.args.sink.now) in
+    let p = err_from_is_err_and c.from_residual.result c.from_residual.ensures.1 in
+    rw (p.1, p.2)
+    (front-nothing before before c.args.document.now.settings c.args.document.now.text refl, refl, refl)

@@ -1,4 +1,4 @@
-use Rattle.bracket_lex.specs.MarkedLine.{marks_in}
+use Rattle.bracket_marks.specs.MarkedLine.{marks_in}
 use Rattle.std.proofs.Common.{◌≡◌, ◌<◌, ◌≤◌, List, length, nat_lt, true, false, sym, ap, ◌∙◌, subst, arith}
 use Rattle.std.specs.List.Sorted.{IsNonDecreasingBy, IsPartitionPoint}
 use Rattle.pairing_defs.specs.declared.LineMark.{LineMark}

@@ -4,7 +4,8 @@ use Rattle.bracket_marks.proofs.brackets.Brackets.marks_in.Given as goal
 
 abbrev pub invariant-loop-column : goal.invariant-loop-column
 invariant-loop-column l = record {
-  marks : l.marks.items ++ marks_from (bracket_at l.self (counts_by l.types) l.line) 0 l.column (length l.line - l.column)
+  marks : l.marks.items
+      ++ marks_from (bracket_at l.self (counts_by l.types) l.line) 0 l.column (length l.line - l.column)
       ≡ marks_from (bracket_at l.self (counts_by l.types) l.line) 0 0 (length l.line);
   within : l.column ≤ length l.line;
   same : (k : ℕ) → l.column ≤ k → counts_by l.rest k ≡ counts_by l.types k;

@@ -28,7 +28,8 @@ pub returns-in_ok-push-in-Some-clause-marks : goal.returns-in_ok-push-in-Some-cl
 returns-in_ok-push-in-Some-clause-marks c =
     let found = bracket_at c.args.self.now (counts_by c.args.types.now) c.args.line.now in
     let b = c.in-Some.b.now in
-    let fits = bracket_fits c.args.self.now (counts_by c.args.types.now) c.args.line.now c.args.column b (sym c.in-Some.ensures) in
+    let fits = bracket_fits c.args.self.now (counts_by c.args.types.now) c.args.line.now c.args.column b
+    (sym c.in-Some.ensures) in
     let text = ap length c.as_slice.ensures in
     one_mark found c.args.column (length c.as_slice.result.now) (length c.args.line.now) b c.args.marks.now.items
     c.push.new.self.items c.requires.inside (sym c.in-Some.ensures) (sym text) (omega (arith, fits.0, text))

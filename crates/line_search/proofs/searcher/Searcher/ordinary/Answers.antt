@@ -35,8 +35,9 @@ find-requires c =
     record {
       short = c.requires.short;
       inside = c.requires.inside;
-      room = early_room (length c.args.self.now.rules) c.args.self.now.groups c.args.work.now.room c.in-Some.lists.now.inside
-          s.fit.inside c.requires.room;
+      room =
+          early_room (length c.args.self.now.rules) c.args.self.now.groups c.args.work.now.room
+          c.in-Some.lists.now.inside s.fit.inside c.requires.room;
     }
 
 -- ---- a begin/end rule

@@ -1,5 +1,5 @@
 use Rattle.std.proofs.Common.{sym, ◌∙◌}
-use Rattle.bracket_lex.specs.MarkedLine.{marks_in}
+use Rattle.bracket_marks.specs.MarkedLine.{marks_in}
 use Rattle.mark_source.proofs.Ahead.{next_ahead}
 use Rattle.mark_source.proofs.Places.{all_in_order}
 use Rattle.mark_source.proofs.Spots.{taken}

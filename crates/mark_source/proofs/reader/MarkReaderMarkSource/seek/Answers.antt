@@ -1,5 +1,5 @@
 use Rattle.std.proofs.Common.{◌≡◌, false, sym, ap, ◌∙◌, subst}
-use Rattle.bracket_lex.specs.MarkedLine.{marks_in}
+use Rattle.bracket_marks.specs.MarkedLine.{marks_in}
 use Rattle.mark_source.specs.Source.{Source, is_before, first}
 use Rattle.mark_source.specs.Reading.{is_passed}
 use Rattle.mark_source.proofs.Ahead.{same_ahead}

@@ -1,7 +1,8 @@
 use Rattle.std.proofs.Common.{refl, arith}
-use Rattle.pattern_defs.specs.Attempt.{Hit, Miss}
+use Rattle.pattern_defs.specs.Attempt.{Hit}
 use Rattle.onig_match.specs.declared.area.Area.{Area}
 use Rattle.onig_match.proofs.Ends.{begins, spent, spent_within, after_visit, after_pop}
+use Rattle.onig_match.proofs.Ends.{spent_back, after_back}
 use Rattle.onig_match.proofs.area.Area.run.Goals as goal
 
 pub loop-step-init : goal.loop-step-init
@@ -71,19 +72,30 @@ loop-step-preserved-in-Some c =
     c.loop-step.invariant.rooms c.after_hit.ensures in
     record { ends = turn.ends; sound = turn.sound; step = turn.step; room = turn.room; rooms = turn.rooms }
 
+pub returns-then-left-back-clause-end : goal.returns-then-left-back-clause-end
+returns-then-left-back-clause-end c =
+    rw (spent_back c.args.on.now c.loop-step.self c.go_back-back.new.self c.pop-in-Failed.new.self c.in-Some-pop.entry
+    c.go_back-back.result c.loop-step.left _ (c.in-Some-pop.ensures).0 (c.in-Some-pop.ensures).1 c.if-left-back.true
+    (rw c.in-Failed.is at c.loop-step.invariant.ends) c.go_back-back.ensures) refl
+
+pub returns-then-left-back-clause-captures : goal.returns-then-left-back-clause-captures
+returns-then-left-back-clause-captures c =
+    rw (spent_back c.args.on.now c.loop-step.self c.go_back-back.new.self c.pop-in-Failed.new.self c.in-Some-pop.entry
+    c.go_back-back.result c.loop-step.left _ (c.in-Some-pop.ensures).0 (c.in-Some-pop.ensures).1 c.if-left-back.true
+    (rw c.in-Failed.is at c.loop-step.invariant.ends) c.go_back-back.ensures) refl
+
 pub loop-step-smaller : goal.loop-step-smaller
 loop-step-smaller c =
-    (after_pop c.args.on.now c.args.self.now c.loop-step.self c.after_miss.new.self c.pop-in-Failed.new.self
-    c.in-Some-pop.entry c.loop-step.step c.after_miss.result
-    (λ (a : Area) l. Miss l) c.loop-step.left _ (c.in-Some-pop.ensures).0 (c.in-Some-pop.ensures).1
-    (λ l. rw c.in-Failed.is refl) (rw c.in-Failed.is refl) c.loop-step.invariant.ends c.loop-step.invariant.room
-    c.loop-step.invariant.rooms c.after_miss.ensures).falls
+    let turn = after_back c.args.on.now c.args.self.now c.loop-step.self c.go_back-back.new.self
+    c.pop-in-Failed.new.self c.in-Some-pop.entry c.go_back-back.result c.loop-step.left _ (c.in-Some-pop.ensures).0
+    (c.in-Some-pop.ensures).1 c.if-left-back.false (rw c.in-Failed.is at c.loop-step.invariant.ends)
+    c.loop-step.invariant.room c.loop-step.invariant.rooms c.go_back-back.ensures in
+    rw c.in-Failed.is turn.falls
 
 pub loop-step-preserved : goal.loop-step-preserved
 loop-step-preserved c =
-    let turn = after_pop c.args.on.now c.args.self.now c.loop-step.self c.after_miss.new.self c.pop-in-Failed.new.self
-    c.in-Some-pop.entry c.loop-step.step c.after_miss.result
-    (λ (a : Area) l. Miss l) c.loop-step.left _ (c.in-Some-pop.ensures).0 (c.in-Some-pop.ensures).1
-    (λ l. rw c.in-Failed.is refl) (rw c.in-Failed.is refl) c.loop-step.invariant.ends c.loop-step.invariant.room
-    c.loop-step.invariant.rooms c.after_miss.ensures in
+    let turn = after_back c.args.on.now c.args.self.now c.loop-step.self c.go_back-back.new.self
+    c.pop-in-Failed.new.self c.in-Some-pop.entry c.go_back-back.result c.loop-step.left _ (c.in-Some-pop.ensures).0
+    (c.in-Some-pop.ensures).1 c.if-left-back.false (rw c.in-Failed.is at c.loop-step.invariant.ends)
+    c.loop-step.invariant.room c.loop-step.invariant.rooms c.go_back-back.ensures in
     record { ends = turn.ends; sound = turn.sound; step = turn.step; room = turn.room; rooms = turn.rooms }

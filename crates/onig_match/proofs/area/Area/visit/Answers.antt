@@ -46,9 +46,7 @@ returns-in-AtGroupEnd c =
 
 pub returns-in-AtIteration : goal.returns-in-AtIteration
 returns-in-AtIteration c =
-    visits_first c.args.on.now c.args.self.now c.repeat.new.self c.args.point
+    visits_first c.args.on.now c.args.self.now c.visit_again.new.self c.args.point
     (Again c.in-AtIteration.repeat.body c.in-AtIteration.repeat.least c.in-AtIteration.repeat.most
     c.in-AtIteration.repeat.greedy c.in-AtIteration.count c.in-AtIteration.begun)
-    c.in-AtIteration.rest _ (sym (c.in-AtIteration.ensures).todo)
-    (rw c.once-in-AtIteration.ensures (visits_once c.args.on.now c.args.self.now _ c.repeat.new.self c.repeat.result
-    c.repeat.ensures))
+    c.in-AtIteration.rest c.visit_again.result (sym (c.in-AtIteration.ensures).todo) c.visit_again.ensures

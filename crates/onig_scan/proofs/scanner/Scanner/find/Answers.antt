@@ -1,4 +1,4 @@
-use Rattle.std.proofs.Common.{◌≡◌, ◌∙◌, Option, subst, arith}
+use Rattle.std.proofs.Common.{◌≡◌, ◌∙◌, Option, refl, subst, arith}
 use Rattle.pattern_defs.specs.FirstMatch.{Pair, pairs_at, first_of, first_pair, found_at, captures_at}
 use Rattle.onig_scan.proofs.Searches.{first_pair-decided, first_pair-missed}
 use Rattle.onig_scan.proofs.scanner.Scanner.find.Goals as goal
@@ -34,4 +34,14 @@ loop-at-preserved c =
           (first_pair-missed c.args.self.now c.args.text.now c.args.from c.loop-at.at c.args.flags
           c.loop-at.work.budget (omega arith) c.loop-at.invariant.missed c.in_default.ensures.missed.missed);
       same = c.in_default.ensures.missed.same ∙ c.loop-at.invariant.same;
+    }
+
+-- a place at which no pattern may match
+pub loop-at-preserved-then-is_idle : goal.loop-at-preserved-then-is_idle
+loop-at-preserved-then-is_idle c =
+    record {
+      missed = first_pair-missed c.args.self.now c.args.text.now c.args.from c.loop-at.at c.args.flags
+          c.loop-at.work.budget (omega arith) c.loop-at.invariant.missed
+          (rw c.budget.ensures at (c.if-is_idle.ensures refl c.args.flags));
+      same = c.loop-at.invariant.same;
     }

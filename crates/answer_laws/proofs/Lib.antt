@@ -1,0 +1,4 @@
+mod AnswerLemmas
+mod Finds
+mod LevelLemmas
+mod GuideLemmas

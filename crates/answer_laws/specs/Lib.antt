@@ -1,0 +1,3 @@
+pub mod GuideLaws
+pub mod MatchLaws
+pub mod PlaceLaws

@@ -1,0 +1,5 @@
+pub mod Loops
+pub mod Marks
+pub mod Single
+pub mod Pairs
+pub mod Sources

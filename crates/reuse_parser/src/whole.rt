@@ -1,0 +1,60 @@
+ghost use Rattle.std.specs.Prelude.{◌≡◌, ◌+◌, ◌≤◌, ◌<◌, length, IfOk};
+ghost use Rattle.bracket_marks.specs.MarkedLine.{marks_in, text_end};
+ghost use Rattle.bracket_ast.specs.Shapes.{or_nothing, SoundInside};
+ghost use Rattle.reuse_parser.specs.Whole.{StandsFor};
+
+use crate::gather::gather;
+use crate::list::parse_list;
+use crate::place::{Around, Place};
+use bracket_ast::Tree;
+use mark_source::MarkSource;
+use std::alloc::{AllocError, Global};
+use std::sync::ledger::Ledger;
+use step_count::Steps;
+use text_pos::{Kinds, Length, length_to};
+
+/// The tree of all marks of a source that stands at the text's start, with at most `limit` pairs one in the other. One
+/// step is taken for each mark. The source's place is then the text's end.
+pub fn parse<S: MarkSource, M: Ledger>(
+    alloc: Global,
+    source: &mut S,
+    limit: u32,
+    marks: &mut Steps<M>,
+) -> Result<Tree, AllocError>
+    requires limit { limit ≤ 300 }
+    requires lines { 0 < length (S.told source.old).lines }
+    requires begin { (S.told source.old).place ≡ record { line = 0; col = 0 } }
+    ensures stands { IfOk result (λ t. StandsFor limit (or_nothing t.root) (S.told source.old).lines) }
+    ensures place { IfOk result (λ t. (S.told source.new).place ≡ text_end (S.told source.old).lines) }
+    ensures lines { (S.told source.new).lines ≡ (S.told source.old).lines }
+    ensures counted { IfOk result (λ t. marks.new ≡ marks.old + length (marks_in (S.told source.old).lines)) }
+    ensures few { marks.new ≤ marks.old + length (marks_in (S.told source.old).lines) }
+{
+    let all = gather(alloc, source, marks)?;
+    let end = source.end();
+    let around = Around {
+        above: Kinds::empty(),
+        level: 0,
+        limit,
+        end: length_to(end),
+    };
+    let start = Place {
+        at: Length { lines: 0, cols: 0 },
+        marks: &all,
+    };
+    let parsed = parse_list(alloc, around, start)?;
+    let tree = known(parsed.tree);
+    source.seek(end);
+    Ok(tree)
+}
+
+/// The tree, with what holds of each node.
+fn known(tree: Tree) -> Tree
+    ensures same { result.root ≡ tree.root }
+    ensures sound { SoundInside tree.root }
+{
+    if let Some(root) = &tree.root {
+        let _known = root.length();
+    }
+    tree
+}

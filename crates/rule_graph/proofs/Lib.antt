@@ -1,0 +1,5 @@
+pub mod Fronts
+pub mod Numbering
+pub mod SlotLemmas
+pub mod ListLemmas
+pub mod WalkLemmas
