@@ -1,0 +1,7 @@
+//! Tests of `line_machine`: the lines of small texts by tables of rules that are made of rows, with ample memory.
+#![tactic(auto)]
+
+mod lines;
+mod rows;
+#[cfg(test)]
+mod tests;
