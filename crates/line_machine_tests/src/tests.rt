@@ -1,6 +1,7 @@
 use crate::lines::told;
 use crate::rows::{
-    Row, block, capture, end_last, group, lasting, single, with_content, with_ends, with_starts,
+    Row, block, capture, end_last, group, inside, lasting, single, with_content, with_ends,
+    with_starts,
 };
 use std::alloc::{AllocError, Global};
 use std::test::Fail;
@@ -338,6 +339,27 @@ fn names_ends_and_empty_lines(rt: HostRuntime) -> Result<(), Fail> {
             "\nx\ny\n\nx",
             1000,
             "0-0 s;1/0-1 s b;2/0-1 s b d;2/0-0 s;1/0-1 s b;2/",
+        )?
+    );
+    Ok(())
+}
+
+#[test]
+fn a_run_over_a_capture_goes_to_its_end(rt: HostRuntime) -> Result<(), Fail> {
+    let entries = [inside(1, "c", 2)];
+    let rows = [
+        group(&[1]),
+        single("t", "<(.*)>", &entries),
+        group(&[3]),
+        single("a", "a", &[]),
+    ];
+    assert!(rt;
+        gives(
+            rt.alloc(),
+            &rows,
+            "<ab>",
+            1000,
+            "0-1 s t;1-2 s t c a;2-3 s t c;3-4 s t;1/"
         )?
     );
     Ok(())
