@@ -3,3 +3,5 @@ pub mod Numbering
 pub mod SlotLemmas
 pub mod ListLemmas
 pub mod WalkLemmas
+pub mod ActiveLemmas
+pub mod ListingLemmas
