@@ -43,7 +43,7 @@ pub opened_group : (more : ℕ) (rules : List Rule) (replaced : ℕ → Bool) (n
     ≡ opened more rules (with_one n replaced) ((rule_at rules n).active ++ others)
 opened_group more rules replaced n others group fresh = rw (group, fresh) refl
 
-opened_out : (rules : List Rule) (replaced : ℕ → Bool) (n : ℕ) (others : List ℕ)
+pub opened_out : (rules : List Rule) (replaced : ℕ → Bool) (n : ℕ) (others : List ℕ)
     → is_group (rule_at rules n).kind ≡ true → replaced n ≡ false → opened zero rules replaced (n ∷ others) ≡ []
 opened_out rules replaced n others group fresh = rw (group, fresh) refl
 

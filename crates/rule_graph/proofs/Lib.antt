@@ -5,3 +5,5 @@ pub mod ListLemmas
 pub mod WalkLemmas
 pub mod ActiveLemmas
 pub mod ListingLemmas
+pub mod RangeLemmas
+pub mod FitLemmas

@@ -57,6 +57,7 @@ fn slot_groups(slot: &Slot) -> u32
 }
 
 /// The most groups that a pattern of a rule may have.
+#[tactic(auto, using(crate::proofs::FitLemmas::most_next, crate::proofs::FitLemmas::most_done))]
 fn most_groups(rules: &[Rule]) -> u32
     ensures { result ≡ most_groups (map rule_of rules.now) }
 {
