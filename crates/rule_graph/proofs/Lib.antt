@@ -7,3 +7,4 @@ pub mod ActiveLemmas
 pub mod ListingLemmas
 pub mod RangeLemmas
 pub mod FitLemmas
+pub mod BuildLemmas
