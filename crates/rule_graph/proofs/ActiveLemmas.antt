@@ -1,13 +1,13 @@
 -- Active lists step by step: what an open list gives when its first member is a rule, a group that was replaced, or one
 -- that wasn't; and what stamps tell of the groups that were.
-use Rattle.std.proofs.Common.{◌≡◌, ◌≢◌, ℕ, zero, suc, ◌+◌, ◌<◌, ◌≤◌, List, [], ◌∷◌, ◌++◌, refl, ap, sym, ◌∙◌, subst}
+use Rattle.std.proofs.Common.{◌≡◌, ◌≢◌, ℕ, zero, suc, ◌+◌, ◌<◌, List, [], ◌∷◌, ◌++◌, refl, ap, sym, ◌∙◌, subst}
 use Rattle.std.proofs.Common.{length, get_or, set, arith, cond, map, All, inl, inr, reverse, append_assoc, length-append}
 use Rattle.std.proofs.lemmas.List.{reverse-append, append-nil, length-set, map-append, length-reverse}
 use Rattle.std.proofs.lemmas.List.Elements.{All-head, All-tail, All-append, All-set}
 use Rattle.scope_defs.specs.declared.types.RuleId.{RuleId}
 use Rattle.rule_graph.specs.Listing.{numbers}
 use Rattle.rule_graph.specs.Opening.{AreWithin}
-use Rattle.std.specs.Prelude.{Bool, true, false, not, ◌==◌, slice_get, unwrap_or}
+use Rattle.std.specs.Prelude.{Bool, true, false, not, ◌==◌}
 use Rattle.std.proofs.lemmas.Bool.{eq-eqb}
 use Rattle.std.proofs.lemmas.Bool.Decides.{eqb_tells}
 use Rattle.std.proofs.lemmas.List.{length-map, get_or-map, get_or-set_same, get_or-set_other}
@@ -218,11 +218,11 @@ pub opening_start : (rules : List TableRule) (stamps : List ℕ) (stamp : ℕ) (
     → IsOpening rules stamps stamp [] todo (active_list (map rule_of rules) (numbers list))
 opening_start rules stamps stamp list todo within count some fresh start = record {
   list =
-    ap (λ more. opened more (map rule_of rules) (marked stamps stamp) (numbers (reverse todo)))
-    (unmarked-fresh stamps stamp fresh ∙ count ∙ sym (length-map rules rule_of))
-    ∙ ap (λ ids. opened (length (map rule_of rules)) (map rule_of rules) (marked stamps stamp) (numbers ids)) start
-    ∙ sym (opened_same (length (map rule_of rules)) (map rule_of rules) none (marked stamps stamp)
-    (marked-fresh stamps stamp some fresh) (numbers list));
+      ap (λ more. opened more (map rule_of rules) (marked stamps stamp) (numbers (reverse todo)))
+      (unmarked-fresh stamps stamp fresh ∙ count ∙ sym (length-map rules rule_of))
+      ∙ ap (λ ids. opened (length (map rule_of rules)) (map rule_of rules) (marked stamps stamp) (numbers ids)) start
+      ∙ sym (opened_same (length (map rule_of rules)) (map rule_of rules) none (marked stamps stamp)
+      (marked-fresh stamps stamp some fresh) (numbers list));
   within = subst (λ ids. All (λ id. id < length rules) (numbers ids)) (sym start) within;
   len = count;
   low = λ k d lt. omega (arith, fresh k d lt);
@@ -255,16 +255,16 @@ opening_rule rules stamps stamp active todo whole id r at no_group is =
     let here : is_group (rule_at all id.0).kind ≡ false =
     ap (λ x. is_group x.kind) (rule_at-view rules id.0 r lt ∙ ap rule_of (sym at)) ∙ no_group in
     record {
-  list =
-    ap (λ ids. ids ++ opened more all before rest) (map-append (λ i. i.0) active (id ∷ []))
-    ∙ append_assoc (numbers active) (id.0 ∷ []) (opened more all before rest)
-    ∙ ap (λ ids. numbers active ++ ids) (sym (opened_rule more all before id.0 rest here))
-    ∙ ap (λ ids. numbers active ++ opened more all before ids) (sym (turned todo id))
-    ∙ is.list;
-  within = opening_rest rules stamps stamp active todo whole id is;
-  len = is.len;
-  low = is.low;
-}
+      list =
+          ap (λ ids. ids ++ opened more all before rest) (map-append (λ i. i.0) active (id ∷ []))
+          ∙ append_assoc (numbers active) (id.0 ∷ []) (opened more all before rest)
+          ∙ ap (λ ids. numbers active ++ ids) (sym (opened_rule more all before id.0 rest here))
+          ∙ ap (λ ids. numbers active ++ opened more all before ids) (sym (turned todo id))
+          ∙ is.list;
+      within = opening_rest rules stamps stamp active todo whole id is;
+      len = is.len;
+      low = is.low;
+    }
 
 pub opening_again : (rules : List TableRule) (stamps : List ℕ) (stamp d : ℕ) (active todo : List RuleId)
     (whole : List ℕ) (id : RuleId) (r : TableRule) → r ≡ get_or rules id.0 r → is_group (rule_of r).kind ≡ true
@@ -280,15 +280,15 @@ opening_again rules stamps stamp d active todo whole id r at group same is =
     let here : is_group (rule_at all id.0).kind ≡ true =
     ap (λ x. is_group x.kind) (rule_at-view rules id.0 r lt ∙ ap rule_of (sym at)) ∙ group in
     record {
-  list =
-    ap (λ ids. numbers active ++ ids) (sym (opened_again more all before id.0 rest here
-    (marked_at stamps id.0 stamp d (omega (arith, lt, is.len)) same)))
-    ∙ ap (λ ids. numbers active ++ opened more all before ids) (sym (turned todo id))
-    ∙ is.list;
-  within = opening_rest rules stamps stamp active todo whole id is;
-  len = is.len;
-  low = is.low;
-}
+      list =
+          ap (λ ids. numbers active ++ ids) (sym (opened_again more all before id.0 rest here
+          (marked_at stamps id.0 stamp d (omega (arith, lt, is.len)) same)))
+          ∙ ap (λ ids. numbers active ++ opened more all before ids) (sym (turned todo id))
+          ∙ is.list;
+      within = opening_rest rules stamps stamp active todo whole id is;
+      len = is.len;
+      low = is.low;
+    }
 
 pub opening_group : (rules : List TableRule) (stamps : List ℕ) (stamp d : ℕ) (active todo todo' : List RuleId)
     (whole : List ℕ) (id : RuleId) (r : TableRule) → r ≡ get_or rules id.0 r → is_group (rule_of r).kind ≡ true
@@ -307,22 +307,22 @@ opening_group rules stamps stamp d active todo todo' whole id r at group other p
     let both : numbers (reverse todo') ≡ numbers r.active ++ rest =
     ap numbers pushed ∙ map-append (λ i. i.0) r.active (reverse todo) in
     record {
-  list =
-    ap (λ ids. numbers active ++ opened more all before ids)
-    (both ∙ ap (λ x. x.active ++ rest) (sym view))
-    ∙ ap (λ ids. numbers active ++ ids) (sym (opened_stamped all stamps id.0 stamp d rest
-    (omega (arith, lt, is.len)) other here))
-    ∙ ap (λ ids. numbers active ++ opened (unmarked stamps stamp) all (marked stamps stamp) ids) (sym (turned todo id))
-    ∙ is.list;
-  within =
-    subst (All (λ n. n < length rules)) (sym both)
-    (All-append (λ n. n < length rules) (numbers r.active) rest
-    (subst (λ x. All (λ n. n < length rules) x.active) (get_or-map rule_of rules id.0 r (rule_of r) lt ∙ ap rule_of (sym at))
-    (within id.0 (rule_of r) (omega (arith, lt, length-map rules rule_of))))
-    (opening_rest rules stamps stamp active todo whole id is));
-  len = length-set stamps id.0 stamp ∙ is.len;
-  low = All-set (λ s. s < stamp + 1) stamps id.0 stamp (omega arith) is.low;
-}
+      list =
+          ap (λ ids. numbers active ++ opened more all before ids)
+          (both ∙ ap (λ x. x.active ++ rest) (sym view))
+          ∙ ap (λ ids. numbers active ++ ids) (sym (opened_stamped all stamps id.0 stamp d rest
+          (omega (arith, lt, is.len)) other here))
+          ∙ ap (λ ids. numbers active ++ opened (unmarked stamps stamp) all (marked stamps stamp) ids) (sym (turned todo id))
+          ∙ is.list;
+      within =
+          subst (All (λ n. n < length rules)) (sym both)
+          (All-append (λ n. n < length rules) (numbers r.active) rest
+          (subst (λ x. All (λ n. n < length rules) x.active) (get_or-map rule_of rules id.0 r (rule_of r) lt ∙ ap rule_of (sym at))
+          (within id.0 (rule_of r) (omega (arith, lt, length-map rules rule_of))))
+          (opening_rest rules stamps stamp active todo whole id is));
+      len = length-set stamps id.0 stamp ∙ is.len;
+      low = All-set (λ s. s < stamp + 1) stamps id.0 stamp (omega arith) is.low;
+    }
 
 pub opening_end : (rules : List TableRule) (stamps : List ℕ) (stamp : ℕ) (active : List RuleId) (whole : List ℕ)
     → IsOpening rules stamps stamp active [] whole → numbers active ≡ whole

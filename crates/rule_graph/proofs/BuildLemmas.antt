@@ -1,6 +1,6 @@
 -- From the listed rules of a grammar to its graph.
-use Rattle.std.proofs.Common.{◌≡◌, ℕ, ◌<◌, ◌≤◌, List, [], ◌∷◌, refl, ap, sym, ◌∙◌, subst, length, map, arith}
-use Rattle.std.specs.Prelude.{Option, Some, None}
+use Rattle.std.proofs.Common.{◌≡◌, ℕ, List, ap, sym, ◌∙◌, subst, length, map}
+use Rattle.std.specs.Prelude.{Some, None}
 use Rattle.std.proofs.lemmas.List.{length-map}
 use Rattle.scope_defs.specs.declared.types.RuleId.{RuleId}
 use Rattle.rule_defs.specs.Rules.{Rule}
@@ -8,7 +8,7 @@ use Rattle.grammar_defs.specs.FileRules.{Grammar}
 use Rattle.grammar_defs.specs.GrammarShape.{rule_count}
 use Rattle.graph_defs.specs.ListedRules.{listed_rules}
 use Rattle.graph_defs.specs.ActiveLists.{active_rules, with_active as with_list}
-use Rattle.graph_defs.specs.GraphMeaning.{FileGraph, GraphReading, graph, too_wide, graph_of, reading, reading_by}
+use Rattle.graph_defs.specs.GraphMeaning.{FileGraph, graph, too_wide, graph_of, reading, reading_by}
 use Rattle.graph_defs.specs.GraphMeaning.{over_limit, most_groups, unread}
 use Rattle.rule_table.specs.Views.{rule_of}
 use Rattle.rule_table.specs.Fits.{AreRules}

@@ -2,7 +2,7 @@
 use Rattle.std.proofs.Common.{◌≡◌, ℕ, zero, suc, ◌+◌, ◌<◌, ◌≤◌, List, [], ◌∷◌, ◌++◌, refl, ap, sym, ◌∙◌, subst}
 use Rattle.std.proofs.Common.{length, arith, map, max, All, get_or, drop, drop_of_length-le}
 use Rattle.std.specs.Prelude.{Bool, true, false}
-use Rattle.std.proofs.lemmas.List.{length-map, drop_more}
+use Rattle.std.proofs.lemmas.List.{drop_more}
 use Rattle.rule_defs.specs.Rules.{Slot, Never, Read, Later, Rule}
 use Rattle.grammar_defs.specs.FileRules.{Grammar}
 use Rattle.grammar_defs.specs.GrammarShape.{rule_count}
@@ -14,7 +14,7 @@ use Rattle.rule_table.specs.declared.rule.Rule.{Rule as TableRule}
 use Rattle.rule_table.specs.Fits.{HasRoom, IsEntry, IsRule, AreRules}
 use Rattle.rule_graph.specs.Opening.{AreWithin}
 use Rattle.rule_graph.proofs.ActiveLemmas.{opened_end, opened_rule, opened_again, opened_group, opened_out}
-use Rattle.rule_graph.proofs.RangeLemmas.{Each, each_append, all_of_each, Below, IsListed, all_below, listed_count}
+use Rattle.rule_graph.proofs.RangeLemmas.{Each, each_append, all_of_each, Below, IsListed, all_below}
 
 -- what is opened is below where all that is listed is
 
@@ -74,8 +74,8 @@ fit_one count groups all r within below le = record {
   start_captures = all_of_each (IsEntry count) r.start_captures below.start_captures;
   finish_captures = all_of_each (IsEntry count) r.finish_captures below.finish_captures;
   active =
-    all_of_each (Below count) (active_list all r.active) (opened_below count (length all) all none r.active within
-    below.active);
+      all_of_each (Below count) (active_list all r.active) (opened_below count (length all) all none r.active within
+      below.active);
 }
 
 fit_each : (count groups : ℕ) (all rules : List Rule) → Each (IsListed count) all → Each (IsListed count) rules

@@ -1,7 +1,7 @@
 -- Active lists of rules, one after the other.
-use Rattle.std.proofs.Common.{◌≡◌, ℕ, zero, suc, ◌+◌, ◌<◌, ◌≤◌, List, [], ◌∷◌, ◌++◌, refl, ap, sym, ◌∙◌, subst}
-use Rattle.std.proofs.Common.{length, get_or, set, arith, cond, map, All, inl, inr, drop, append_assoc}
-use Rattle.std.specs.Prelude.{true, false, nat_lt, Option, Some, None}
+use Rattle.std.proofs.Common.{◌≡◌, ℕ, ◌+◌, ◌<◌, ◌≤◌, List, [], ◌∷◌, ◌++◌, refl, ap, sym, ◌∙◌, subst}
+use Rattle.std.proofs.Common.{length, get_or, set, arith, cond, map, All, drop, append_assoc}
+use Rattle.std.specs.Prelude.{true, false, nat_lt, Option, Some}
 use Rattle.std.specs.List.{find}
 use Rattle.std.proofs.lemmas.List.{length-map, get_or-map, drop_more, map-append}
 use Rattle.rule_defs.specs.Rules.{Rule}
@@ -77,18 +77,18 @@ listing_next rules stamps stamps' stamp sum made turn r list so lt is gives few 
   low = low;
   at = ap (λ n. n + 1) so.at;
   lists =
-    let all = map rule_of rules in
-    let rest = map (list_of all) (map rule_of (drop (turn + 1) rules)) in
-    ap (λ xs. xs ++ rest) (map-append numbers made (list ∷ []))
-    ∙ append_assoc (map numbers made) (numbers list ∷ []) rest
-    ∙ ap (λ xs. map numbers made ++ xs ∷ rest) gives
-    ∙ ap (λ xs. map numbers made ++ map (list_of all) xs) (sym (next_rules rules turn r lt is))
-    ∙ so.lists;
+      let all = map rule_of rules in
+      let rest = map (list_of all) (map rule_of (drop (turn + 1) rules)) in
+      ap (λ xs. xs ++ rest) (map-append numbers made (list ∷ []))
+      ∙ append_assoc (map numbers made) (numbers list ∷ []) rest
+      ∙ ap (λ xs. map numbers made ++ xs ∷ rest) gives
+      ∙ ap (λ xs. map numbers made ++ map (list_of all) xs) (sym (next_rules rules turn r lt is))
+      ∙ so.lists;
   over =
-    let all = map rule_of rules in
-    ap (λ b. cond b (Some (sum + length list)) (over_from all (sum + length list) (map rule_of
-    (drop (turn + 1) rules)))) (sym few)
-    ∙ over_next rules stamps stamp sum made turn r list so lt is gives;
+      let all = map rule_of rules in
+      ap (λ b. cond b (Some (sum + length list)) (over_from all (sum + length list) (map rule_of
+      (drop (turn + 1) rules)))) (sym few)
+      ∙ over_next rules stamps stamp sum made turn r list so lt is gives;
   small = small;
 }
 

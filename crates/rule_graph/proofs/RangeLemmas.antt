@@ -1,6 +1,6 @@
 -- All rules that a grammar's rules name are rules of it.
-use Rattle.std.proofs.Common.{◌≡◌, ℕ, zero, suc, ◌+◌, ◌<◌, ◌≤◌, List, [], ◌∷◌, ◌++◌, refl, ap, sym, ◌∙◌, subst}
-use Rattle.std.proofs.Common.{length, arith, cond, map, All, length-append, IfSome}
+use Rattle.std.proofs.Common.{◌≡◌, ℕ, zero, suc, ◌+◌, ◌<◌, ◌≤◌, List, [], ◌∷◌, ◌++◌}
+use Rattle.std.proofs.Common.{length, arith, cond, All, length-append, IfSome}
 use Rattle.std.specs.Prelude.{Bool, true, false, Option, Some, None, option_to_list, option_and_then}
 use Rattle.std.specs.Str.{bytes_eq}
 use Rattle.std.proofs.lemmas.List.Sums.{sum_by-cons}
@@ -166,15 +166,21 @@ capture_group_below : (g : Grammar) (n : ℕ) (p : FileList) → n + capture_rul
     → Each (IsListed (rule_count g)) (capture_group g n p)
 capture_group_below g n absent le = tt
 capture_group_below g n nothing le = (group_below (rule_count g) None [] tt, tt)
-capture_group_below g n (include name others) le =
-    (group_below (rule_count g) None (members g (n + 1) (include name others))
-    (members_below g (n + 1) (include name others) (omega (arith, le))), tt)
-capture_group_below g n (rule t a b c d last p others) le =
-    (group_below (rule_count g) None (members g (n + 1) (rule t a b c d last p others))
-    (members_below g (n + 1) (rule t a b c d last p others) (omega (arith, le))), tt)
-capture_group_below g n (capture number name content p others) le =
-    (group_below (rule_count g) None (members g (n + 1) (capture number name content p others))
-    (members_below g (n + 1) (capture number name content p others) (omega (arith, le))), tt)
+capture_group_below g n (include name others) le = (
+  group_below (rule_count g) None (members g (n + 1) (include name others))
+      (members_below g (n + 1) (include name others) (omega (arith, le))),
+  tt,
+)
+capture_group_below g n (rule t a b c d last p others) le = (
+  group_below (rule_count g) None (members g (n + 1) (rule t a b c d last p others))
+      (members_below g (n + 1) (rule t a b c d last p others) (omega (arith, le))),
+  tt,
+)
+capture_group_below g n (capture number name content p others) le = (
+  group_below (rule_count g) None (members g (n + 1) (capture number name content p others))
+      (members_below g (n + 1) (capture number name content p others) (omega (arith, le))),
+  tt,
+)
 
 pub rules_below : (g : Grammar) (n : ℕ) (list : FileList) → n + rules_of_list list ≤ rule_count g
     → Each (IsListed (rule_count g)) (rules_from g n list)

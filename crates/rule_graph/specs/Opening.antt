@@ -1,5 +1,5 @@
 -- What active lists are told of, and what answers say of them.
-use Rattle.std.specs.Prelude.{◌≡◌, ℕ, ◌<◌, List, [], ◌∷◌, map, All, Result, Ok, Err, Option, Some, None, ⊤}
+use Rattle.std.specs.Prelude.{◌≡◌, ℕ, ◌<◌, List, [], ◌∷◌, map, All, Result, Ok, Err, Some, None, ⊤}
 use Rattle.std.specs.Global.{Vec}
 use Rattle.scope_defs.specs.declared.types.RuleId.{RuleId}
 use Rattle.rule_defs.specs.Rules.{Rule}

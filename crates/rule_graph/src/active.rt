@@ -6,6 +6,7 @@ ghost use Rattle.rule_graph.specs.Listing.{numbers};
 ghost use Rattle.rule_graph.specs.Opening.{AreWithin, GivesLists, with_lists};
 
 use crate::graph::GraphRefusal;
+use grammar_defs::MOST_RULES;
 use graph_defs::MOST_ACTIVE;
 use rule_table::{Rule, RuleIds, RuleKind};
 use scope_defs::RuleId;
@@ -59,7 +60,7 @@ fn active_list(
 /// The active lists of rules, by their numbers.
 pub(crate) fn active_lists(alloc: Global, rules: &[Rule]) -> Result<Vec<RuleIds>, GraphRefusal>
     requires within { AreWithin (length rules.now) (map rule_of rules.now) }
-    requires few { length rules.now ≤ 65536 }
+    requires few { length rules.now ≤ MOST_RULES }
     ensures { GivesLists result (map rule_of rules.now) }
 {
     let mut stamps = Vec::from_elem(alloc, 0u32, rules.len())?;

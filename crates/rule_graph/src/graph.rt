@@ -25,6 +25,7 @@ pub enum GraphRefusal {
     /// The active lists, added in order of rule number, are so long together: the first sum above `MOST_ACTIVE`.
     #[error("TooWide")]
     TooWide { count: u64 },
+    /// There is no memory left.
     #[error("Memory")]
     Memory,
 }
@@ -108,7 +109,8 @@ impl Graph {
 
     /// How many rules there are.
     pub fn rules(&self) -> u32
-        ensures { result ≡ length self.now.rules }
+        ensures count { result ≡ length self.now.rules }
+        ensures some { 0 < result }
     {
         self.table.len()
     }

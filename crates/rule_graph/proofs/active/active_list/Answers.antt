@@ -1,4 +1,4 @@
-use Rattle.std.proofs.Common.{rules, set, ◌≡◌, ◌<◌, ◌+◌, ◌++◌, List, length, map, true, false, [], ◌∷◌, arith, subst, sym, ap, ◌∙◌}
+use Rattle.std.proofs.Common.{rules, set, ◌<◌, ◌+◌, length, map, arith, subst, sym}
 use Rattle.std.proofs.lemmas.List.{nil_from_length}
 use Rattle.rule_table.specs.Views.{rule_of}
 use Rattle.graph_defs.specs.ActiveLists.{active_list}

@@ -1,9 +1,9 @@
-use Rattle.std.proofs.Common.{rules, ◌≡◌, ◌≤◌, ◌<◌, map, length, arith, ap, sym, subst, ◌∙◌}
+use Rattle.std.proofs.Common.{rules, ◌≡◌, map, length, arith, ap, sym, ◌∙◌}
 use Rattle.rule_table.specs.Views.{rule_of}
 use Rattle.grammar_json.specs.GrammarViews.{grammar_view}
 use Rattle.graph_defs.specs.ListedRules.{listed_rules}
 use Rattle.graph_defs.specs.ActiveLists.{active_rules}
-use Rattle.graph_defs.specs.GraphMeaning.{FileGraph, graph}
+use Rattle.graph_defs.specs.GraphMeaning.{graph}
 use Rattle.rule_graph.proofs.BuildLemmas.{count_of, within_of, made_of, lists_count, made_count, fits_of, reading_of}
 use Rattle.rule_graph.proofs.graph.Graph.build.Goals as goal
 
