@@ -8,3 +8,4 @@ pub mod ListingLemmas
 pub mod RangeLemmas
 pub mod FitLemmas
 pub mod BuildLemmas
+pub mod FileLemmas
