@@ -1,3 +1,8 @@
+ghost use Rattle.std.specs.Prelude.{◌≤◌, IfOk};
+ghost use Rattle.grammar_defs.specs.GrammarShape.{rule_count};
+ghost use Rattle.grammar_json.specs.GrammarViews.{grammar_view};
+
+use grammar_defs::MOST_RULES;
 use grammar_json::{Grammar, read_grammar};
 use rule_graph::{Graph, GraphRefusal};
 use rule_table::{Rule, RuleKind, Slot};
@@ -5,7 +10,10 @@ use scope_defs::RuleId;
 use std::alloc::Global;
 use std::test::Fail;
 
-fn grammar(alloc: Global, file: &str) -> Result<Grammar, Fail> {
+/// A file that is read as a grammar, which has few enough rules for a graph.
+fn grammar(alloc: Global, file: &str) -> Result<Grammar, Fail>
+    ensures { IfOk result (λ g. rule_count (grammar_view g) ≤ MOST_RULES) }
+{
     match read_grammar(alloc, file.as_bytes()) {
         Ok(grammar) => Ok(grammar),
         Err(_) => Err(Fail::new("the file is no grammar")),
