@@ -1,7 +1,8 @@
 -- Active lists step by step: what an open list gives when its first member is a rule, a group that was replaced, or one
 -- that wasn't; and what stamps tell of the groups that were.
 use Rattle.std.proofs.Common.{◌≡◌, ◌≢◌, ℕ, zero, suc, ◌+◌, ◌<◌, List, [], ◌∷◌, ◌++◌, refl, ap, sym, ◌∙◌, subst}
-use Rattle.std.proofs.Common.{length, get_or, set, arith, cond, map, All, inl, inr, reverse, append_assoc, length-append}
+use Rattle.std.proofs.Common.{length, get_or, set, arith, cond, map, All, inl, inr, reverse, append_assoc}
+use Rattle.std.proofs.Common.{length-append}
 use Rattle.std.proofs.lemmas.List.{reverse-append, append-nil, length-set, map-append, length-reverse}
 use Rattle.std.proofs.lemmas.List.Elements.{All-head, All-tail, All-append, All-set}
 use Rattle.scope_defs.specs.declared.types.RuleId.{RuleId}
@@ -312,12 +313,14 @@ opening_group rules stamps stamp d active todo todo' whole id r at group other p
           (both ∙ ap (λ x. x.active ++ rest) (sym view))
           ∙ ap (λ ids. numbers active ++ ids) (sym (opened_stamped all stamps id.0 stamp d rest
           (omega (arith, lt, is.len)) other here))
-          ∙ ap (λ ids. numbers active ++ opened (unmarked stamps stamp) all (marked stamps stamp) ids) (sym (turned todo id))
+          ∙ ap (λ ids. numbers active ++ opened (unmarked stamps stamp) all (marked stamps stamp) ids)
+          (sym (turned todo id))
           ∙ is.list;
       within =
           subst (All (λ n. n < length rules)) (sym both)
           (All-append (λ n. n < length rules) (numbers r.active) rest
-          (subst (λ x. All (λ n. n < length rules) x.active) (get_or-map rule_of rules id.0 r (rule_of r) lt ∙ ap rule_of (sym at))
+          (subst (λ x. All (λ n. n < length rules) x.active)
+          (get_or-map rule_of rules id.0 r (rule_of r) lt ∙ ap rule_of (sym at))
           (within id.0 (rule_of r) (omega (arith, lt, length-map rules rule_of))))
           (opening_rest rules stamps stamp active todo whole id is));
       len = length-set stamps id.0 stamp ∙ is.len;

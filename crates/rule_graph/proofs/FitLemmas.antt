@@ -7,7 +7,8 @@ use Rattle.rule_defs.specs.Rules.{Slot, Never, Read, Later, Rule}
 use Rattle.grammar_defs.specs.FileRules.{Grammar}
 use Rattle.grammar_defs.specs.GrammarShape.{rule_count}
 use Rattle.graph_defs.specs.ListedRules.{listed_rules}
-use Rattle.graph_defs.specs.ActiveLists.{rule_at, is_group, with_one, none, opened, active_list, with_active, active_rules}
+use Rattle.graph_defs.specs.ActiveLists.{rule_at, is_group, with_one, none, opened, active_list}
+use Rattle.graph_defs.specs.ActiveLists.{with_active, active_rules}
 use Rattle.graph_defs.specs.GraphMeaning.{slot_groups, rule_groups, most_groups}
 use Rattle.rule_table.specs.Views.{rule_of}
 use Rattle.rule_table.specs.declared.rule.Rule.{Rule as TableRule}

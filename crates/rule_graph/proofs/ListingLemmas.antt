@@ -20,7 +20,8 @@ list_of all r = active_list all r.active
 
 -- the first sum above the limit, where the lists of these rules are added to a sum
 abbrev pub over_from : List Rule → ℕ → List Rule → Option ℕ
-over_from all sum rest = find (nat_lt MOST_ACTIVE) (sums_from sum (map (λ r. length r.active) (map (with_active all) rest)))
+over_from all sum rest =
+    find (nat_lt MOST_ACTIVE) (sums_from sum (map (λ r. length r.active) (map (with_active all) rest)))
 
 -- How far the lists are made: those of the first rules, with the sum of their lengths.
 pub record IsListing (rules : List TableRule) (stamps : List ℕ) (stamp sum : ℕ) (made : List (List RuleId))

@@ -1,7 +1,6 @@
-ghost use Rattle.std.specs.Prelude.{◌≡◌, ◌≤◌, ◌<◌, ◌+◌, ◌^◌, ◌++◌, ℕ, List, length, map, reverse, All, IfOk, OnOk, OnErr};
+ghost use Rattle.std.specs.Prelude.{◌≡◌, ◌≤◌, ◌<◌, ◌+◌, ◌++◌, length, map, reverse, All, IfOk, OnOk};
 ghost use Rattle.rule_table.specs.Views.{rule_of};
-ghost use Rattle.graph_defs.specs.ActiveLists.{active_list, with_active};
-ghost use Rattle.graph_defs.specs.GraphMeaning.{over_limit};
+ghost use Rattle.graph_defs.specs.ActiveLists.{active_list};
 ghost use Rattle.rule_graph.specs.Listing.{numbers};
 ghost use Rattle.rule_graph.specs.Opening.{AreWithin, GivesLists, with_lists};
 

@@ -1,6 +1,5 @@
-ghost use Rattle.std.specs.Prelude.{◌≡◌, ◌≤◌, ◌<◌, map, max, length};
+ghost use Rattle.std.specs.Prelude.{◌≡◌, ◌≤◌, ◌<◌, map, length};
 ghost use Rattle.rule_table.specs.Views.{rule_of, slot_of};
-ghost use Rattle.rule_table.specs.Fits.{IsRule};
 ghost use Rattle.grammar_defs.specs.GrammarShape.{rule_count};
 ghost use Rattle.grammar_json.specs.GrammarViews.{grammar_view};
 ghost use Rattle.graph_defs.specs.ActiveLists.{rule_at};

@@ -94,7 +94,8 @@ returns-clause-list c =
     let whole = active_list (map rule_of c.args.rules.now) (numbers c.args.list.now) in
     opening_end c.args.rules.now c.loop-id.stamps c.args.stamp c.loop-id.active whole
     (subst (λ todo. IsOpening c.args.rules.now c.loop-id.stamps c.args.stamp c.loop-id.active todo whole)
-    (nil_from_length c.loop-id.todo.items (omega (arith, c.in_default.ensures.cases.0, c.loop-id.todo.ok))) c.loop-id.invariant)
+    (nil_from_length c.loop-id.todo.items (omega (arith, c.in_default.ensures.cases.0, c.loop-id.todo.ok)))
+    c.loop-id.invariant)
 
 pub returns-clause-stamps : goal.returns-clause-stamps
 returns-clause-stamps c = c.loop-id.invariant.low

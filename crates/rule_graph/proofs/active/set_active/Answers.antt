@@ -13,7 +13,8 @@ loop-list-preserved c =
     let whole = ap length c.in-Some.ensures.items in (
       set_step c.loop-list.rules.items c.pop.new.self.items c.in-Some.list c.len-at.result c.index_mut.result.now
           (omega (arith, parts, whole, c.loop-list.invariant.1)) at (search rules)
-          ∙ ap (λ lists. with_lists (map rule_of c.loop-list.rules.items) (map numbers lists)) (sym c.in-Some.ensures.items)
+          ∙ ap (λ lists. with_lists (map rule_of c.loop-list.rules.items) (map numbers lists))
+          (sym c.in-Some.ensures.items)
           ∙ c.loop-list.invariant.0,
       omega (
         arith,
