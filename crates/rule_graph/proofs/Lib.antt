@@ -3,3 +3,9 @@ pub mod Numbering
 pub mod SlotLemmas
 pub mod ListLemmas
 pub mod WalkLemmas
+pub mod ActiveLemmas
+pub mod ListingLemmas
+pub mod RangeLemmas
+pub mod FitLemmas
+pub mod BuildLemmas
+pub mod FileLemmas

@@ -1,5 +1,5 @@
 -- Lists of rules and captures, member by member.
-use Rattle.std.proofs.Common.{◌≡◌, ℕ, ◌+◌, ◌<◌, List, [], ◌∷◌, ◌++◌, length, map, drop, get_or, refl, ap, ◌∙◌, arith}
+use Rattle.std.proofs.Common.{◌≡◌, ℕ, ◌+◌, ◌<◌, List, [], ◌∷◌, length, drop, get_or, refl, ap, arith}
 use Rattle.std.specs.Prelude.{Some, true}
 use Rattle.std.proofs.lemmas.List.{drop_more}
 use Rattle.grammar_defs.specs.FileRules.{FileList, absent, nothing, include, rule, capture}

@@ -1,12 +1,10 @@
 -- Rules have their numbers, one behind the other.
-use Rattle.std.proofs.Common.{◌≡◌, ℕ, zero, suc, ◌+◌, ◌-◌, ◌<◌, ◌≤◌, List, [], ◌∷◌, length, map, drop, get_or, refl}
+use Rattle.std.proofs.Common.{◌≡◌, ℕ, zero, suc, ◌+◌, ◌<◌, ◌≤◌, List, [], ◌∷◌, length, map, drop, get_or}
 use Rattle.std.proofs.Common.{ap, ◌∙◌, arith, cond, sym}
-use Rattle.std.specs.Prelude.{Option, Some, None, String}
+use Rattle.std.specs.Prelude.{Some}
 use Rattle.std.specs.Str.{bytes_eq}
-use Rattle.std.specs.Global.{Global}
-use Rattle.std.specs.BTreeMap.{BTreeMap, get_by_text}
+use Rattle.std.specs.BTreeMap.{get_by_text}
 use Rattle.std.proofs.lemmas.List.{drop_more}
-use Rattle.std.proofs.lemmas.List.Sums.{sum_by-take-drop}
 use Rattle.grammar_defs.specs.GrammarShape.{rules_of_rule, rules_of_named}
 use Rattle.grammar_json.specs.FileViews.{rule_of}
 use Rattle.grammar_json.specs.NamedViews.{named_view}

@@ -1,21 +1,17 @@
 -- What reading a text tells of its slot, and where a text is read later.
-use Rattle.std.proofs.Common.{◌≡◌, ◌≢◌, ℕ, ◌+◌, ◌<◌, List, [], ◌∷◌, length, drop, get_or, refl, ap, ◌∙◌}
-use Rattle.std.specs.Prelude.{Option, Some, None, Ok, Err, ◌==◌, ◌&&◌, ◌||◌, Bool, true, false, not, is_some, cond}
+use Rattle.std.proofs.Common.{◌≡◌, ℕ, ◌+◌, ◌<◌, List, length, drop, get_or, ap}
+use Rattle.std.specs.Prelude.{Ok, ◌==◌, ◌&&◌, ◌||◌}
 use Rattle.std.specs.Str.{chars}
-use Rattle.std.specs.List.{count_by}
 use Rattle.std.proofs.lemmas.List.{drop_more}
 use Rattle.pattern_defs.specs.Patterns.{Tree}
-use Rattle.syntax_defs.specs.declared.refusal.PatternRefusal.{PatternRefusal}
-use Rattle.syntax_defs.specs.declared.refusal.PatternRefusal.TheVariants.{Memory}
 use Rattle.syntax_defs.specs.Lengths.{read_pattern}
 use Rattle.onig_parse.specs.Reading.{GivesPattern}
 use Rattle.canonical_patterns.specs.Canonical.{canonical}
 use Rattle.canonical_patterns.specs.ReadTrees.{read_tree}
-use Rattle.canonical_laws.proofs.Readings.{tree_read-canonical, tree_read-refused}
-use Rattle.rule_defs.specs.Rules.{Slot, Never, Read}
+use Rattle.canonical_laws.proofs.Readings.{tree_read-canonical}
+use Rattle.rule_defs.specs.Rules.{Read}
 use Rattle.grammar_defs.specs.RuleShape.{is_digit}
 use Rattle.graph_defs.specs.Slots.{slot_by, is_later, begins_with_digit}
-use Rattle.graph_defs.specs.GraphMeaning.{is_unread}
 
 pub slot_of_read : (bs : List ℕ) (tree : Tree) → GivesPattern (chars bs) (Ok tree) (read_pattern (chars bs))
     → slot_by (read_tree bs) ≡ Read (canonical tree)

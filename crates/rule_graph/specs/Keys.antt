@@ -1,6 +1,6 @@
 -- A map of names to the numbers of rules, and what stands behind a front of a text.
 use Rattle.std.specs.Borrow.{Bor}
-use Rattle.std.specs.Prelude.{◌≡◌, ℕ, List, String, Option, Some, None, option_map}
+use Rattle.std.specs.Prelude.{◌≡◌, ℕ, List, String, Option, option_map}
 use Rattle.std.specs.BTreeMap.{BTreeMap, get_by_text}
 use Rattle.std.specs.Global.{Global}
 use Rattle.grammar_defs.specs.FileRules.{NamedRule, Grammar}

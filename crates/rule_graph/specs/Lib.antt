@@ -1,3 +1,5 @@
+pub mod Graphs
 pub mod Keys
 pub mod Listing
+pub mod Opening
 pub mod Walks

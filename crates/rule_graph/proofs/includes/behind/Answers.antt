@@ -1,5 +1,5 @@
 use Rattle.std.proofs.Common.{◌≡◌, ◌≢◌, ◌+◌, ◌++◌, List, ℕ, ◌∙◌, ap, sym, drop, length}
-use Rattle.std.specs.Prelude.{MatchOption, Option, Some, None}
+use Rattle.std.specs.Prelude.{MatchOption, Some, None}
 use Rattle.std.specs.Str.{IsCharBoundary}
 use Rattle.rule_graph.proofs.Fronts.{found-behind}
 use Rattle.rule_graph.specs.Keys.{BehindIs}

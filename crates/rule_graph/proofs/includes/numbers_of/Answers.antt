@@ -1,13 +1,13 @@
 use Rattle.std.proofs.Common.{arith}
-use Rattle.std.proofs.Common.{◌≡◌, ◌+◌, ◌-◌, ◌≤◌, ◌<◌, map, length, drop, ap}
-use Rattle.grammar_defs.specs.GrammarShape.{rules_of_named, rules_of_rule}
+use Rattle.std.proofs.Common.{◌≡◌, ◌+◌, ◌-◌, ◌<◌, map, length, drop, ap}
+use Rattle.grammar_defs.specs.GrammarShape.{rules_of_rule}
 use Rattle.grammar_json.specs.FileViews.{rule_of}
 use Rattle.grammar_json.specs.NamedViews.{named_view}
 use Rattle.grammar_json.proofs.CountLemmas.{named_step}
 use Rattle.rule_graph.proofs.Numbering.{rules_of_rest, numbers-step}
 use Rattle.std.proofs.lemmas.Map.Text.{btree_map_updates_text}
 use Rattle.std.proofs.lemmas.Result.{IfOk-at_ok}
-use Rattle.std.proofs.Common.{string_bytes, get_or, ◌∙◌, sym, cond}
+use Rattle.std.proofs.Common.{string_bytes, get_or, ◌∙◌, cond}
 use Rattle.std.specs.Prelude.{Some}
 use Rattle.std.specs.Str.{bytes_eq}
 use Rattle.std.specs.BTreeMap.{get_by_text}

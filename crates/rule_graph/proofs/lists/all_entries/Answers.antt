@@ -1,4 +1,4 @@
-use Rattle.std.proofs.Common.{◌≡◌, ◌+◌, ◌++◌, map, drop, ap, ◌∙◌, sym, arith}
+use Rattle.std.proofs.Common.{◌+◌, ◌++◌, map, drop, ap, ◌∙◌, sym, arith}
 use Rattle.grammar_defs.specs.GrammarShape.{rules_of_list, capture_rules}
 use Rattle.grammar_json.specs.FileViews.{capture_list, capture_then, if_there}
 use Rattle.grammar_json.proofs.CountLemmas.{captures_step}

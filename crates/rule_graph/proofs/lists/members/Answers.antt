@@ -1,4 +1,4 @@
-use Rattle.std.proofs.Common.{◌≡◌, ◌+◌, ◌++◌, drop, ap, ◌∙◌, sym, arith}
+use Rattle.std.proofs.Common.{◌+◌, ◌++◌, drop, ap, ◌∙◌, sym, arith}
 use Rattle.grammar_defs.specs.GrammarShape.{rules_of_list}
 use Rattle.grammar_json.specs.FileViews.{entry_list, entry_then, entry_rules}
 use Rattle.grammar_json.proofs.CountLemmas.{entries_step}

@@ -1,8 +1,8 @@
-use Rattle.std.proofs.Common.{◌≡◌, ap, ◌∙◌, sym, subst}
+use Rattle.std.proofs.Common.{ap, ◌∙◌, sym, subst}
 use Rattle.std.specs.Prelude.{Some}
 use Rattle.grammar_json.specs.GrammarViews.{grammar_view}
 use Rattle.rule_graph.specs.Walks.{after, after_named, after_group, IsSmall}
-use Rattle.rule_graph.proofs.WalkLemmas.{start, made, whole, small_w2, small_w3, small_w4}
+use Rattle.rule_graph.proofs.WalkLemmas.{start, whole, small_w2, small_w3, small_w4}
 use Rattle.rule_graph.proofs.walk.listed.Goals as goal
 
 pub push_entries-requires : goal.push_entries-requires

@@ -1,5 +1,4 @@
-use Rattle.std.proofs.Common.{◌≡◌, ap, ◌∙◌, sym}
-use Rattle.std.proofs.lemmas.Result.{IfOk-at_ok}
+use Rattle.std.proofs.Common.{ap, ◌∙◌, sym}
 use Rattle.rule_defs.specs.Rules.{Read}
 use Rattle.canonical_patterns.specs.Canonical.{canonical}
 use Rattle.rule_graph.proofs.SlotLemmas.{slot_of_read}

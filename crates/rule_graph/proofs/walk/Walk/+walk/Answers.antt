@@ -1,4 +1,4 @@
-use Rattle.std.proofs.Common.{◌≡◌, ◌+◌, ap, ◌∙◌, sym, arith, subst, drop, refl, rules}
+use Rattle.std.proofs.Common.{◌+◌, ap, ◌∙◌, sym, subst, drop, rules}
 use Rattle.grammar_defs.specs.FileRules.{nothing, capture}
 use Rattle.grammar_json.specs.FileViews.{rule_of, entry_list, entry_then, capture_list, capture_then, if_there}
 use Rattle.std.proofs.Common.{◌≤◌}
@@ -7,7 +7,7 @@ use Rattle.grammar_json.specs.declared.file_rules.Captures.TheDeep.{deep-Entry, 
 use Rattle.rule_graph.proofs.ListLemmas.{entry_weighs, capture_weighs}
 use Rattle.rule_graph.specs.Walks.{after, IsSmall}
 use Rattle.rule_graph.proofs.WalkLemmas.{after_parts, captures_next, entries_next, small_before, on_ok}
-use Rattle.rule_graph.proofs.WalkLemmas.{small_2, small_3, small_4, small_5, room_of_capture, small_captured}
+use Rattle.rule_graph.proofs.WalkLemmas.{small_2, small_3, small_4, small_5, room_of_capture}
 use Rattle.rule_graph.proofs.walk.Walk.+walk.Goals as goal
 
 pub push_rule-push_captures-requires-2 : goal.push_rule-push_captures-requires-2

@@ -1,4 +1,4 @@
-use Rattle.std.proofs.Common.{◌≡◌, ◌+◌, ap, ◌∙◌, sym, subst, drop, map}
+use Rattle.std.proofs.Common.{◌+◌, ap, ◌∙◌, sym, subst, drop, map}
 use Rattle.grammar_defs.specs.FileRules.{nothing, placed}
 use Rattle.grammar_json.specs.FileViews.{rule_of}
 use Rattle.grammar_json.specs.NamedViews.{named_view}
