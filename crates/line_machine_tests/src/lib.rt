@@ -1,6 +1,8 @@
 //! Tests of `line_machine`: the lines of small texts by tables of rules that are made of rows, with ample memory.
 #![tactic(auto)]
 
+#[cfg(test)]
+mod grammars;
 mod lines;
 mod rows;
 #[cfg(test)]
