@@ -3,6 +3,8 @@
 
 #[cfg(test)]
 mod grammars;
+#[cfg(test)]
+mod limits;
 mod lines;
 mod rows;
 #[cfg(test)]
