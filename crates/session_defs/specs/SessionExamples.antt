@@ -20,6 +20,7 @@ use Rattle.script_words.specs.Script.{refused, command, meaning_of, reading_of}
 use Rattle.answer_defs.specs.Answers.{is_range}
 use Rattle.pairing_defs.specs.Marks.{usual_texts}
 use Rattle.document_defs.specs.TextRows.{Settings, rows_of}
+use Rattle.answer_defs.specs.TokenAnswers.{tokens_in}
 use Rattle.script_words.specs.ReplyText.{reply_text}
 use Rattle.text_pos.specs.declared.limits.Limits.{Limits}
 use Rattle.session_defs.specs.declared.file_kind.FileKind.TheVariants as kind
@@ -50,6 +51,13 @@ pub commands : map reading_of
     ≡ command (Ask (question.Brackets 0 1)) ∷ command (Ask (question.Line 4294967295)) ∷ command (Turn 1) ∷ command (Turn 262144) ∷ []
 unfolding serde_json_on_literals chars is_utf8 utf8_valid_len encode
 commands = refl
+
+-- a question for the tokens of a line, at the ends of its range and past them
+pub question_for_tokens : map reading_of
+    (codes "{\"tokens\":0}" ∷ codes "{\"tokens\":4294967295}" ∷ codes "{\"tokens\":4294967296}" ∷ [])
+    ≡ command (Ask (question.Tokens 0)) ∷ command (Ask (question.Tokens 4294967295)) ∷ refused refusal.Command ∷ []
+unfolding serde_json_on_literals chars is_utf8 utf8_valid_len encode
+question_for_tokens = refl
 
 -- white space counts nothing, a CR at the end too, and a key may be written with escapes
 pub white_space_and_escapes : map reading_of
@@ -121,6 +129,14 @@ pub reply_of_brackets :
     ≡ line "{\"brackets\":[[0,0,1,0,0,0],[0,1,2,1,0,6],[0,2,3,0,0,0],[0,3,4,0,0,6]]}"
 unfolding serde_json_on_literals encode digits
 reply_of_brackets = refl
+
+-- a token of no scopes, and one of two, where a name is written as a JSON string and the last one sets the type
+pub reply_of_tokens :
+    reply_text (reply.Answered (answer.Tokens (tokens_in
+    (record { from = 0; to = 2; scopes = [] } ∷ record { from = 2; to = 7; scopes = codes "s" ∷ codes "string.\"" ∷ [] } ∷ []))))
+    ≡ line "{\"tokens\":[[0,2,[],0],[2,7,[\"s\",\"string.\\\"\"],2]]}"
+unfolding serde_json_on_literals digits
+reply_of_tokens = refl
 
 -- the other replies
 pub other_replies :
