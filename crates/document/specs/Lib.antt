@@ -1,2 +1,3 @@
 pub mod AskRefusals
+pub mod Settings
 pub mod State

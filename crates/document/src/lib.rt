@@ -3,4 +3,6 @@
 
 pub mod document;
 
+mod refusals;
+
 pub use document::{AskRefusal, Document};
