@@ -1,21 +1,26 @@
-ghost use Rattle.std.specs.Prelude.{◌≡◌, ◌<◌, ◌≤◌, None, IfOk, IfErr, OnOk, OnErr};
+ghost use Rattle.std.specs.Prelude.{◌≡◌, ◌<◌, ◌≤◌, [], None, slice_index_or, IfOk, IfErr, OnOk, OnErr};
 ghost use Rattle.text_defs.specs.Text.{line_count};
 ghost use Rattle.text_defs.specs.Batch.{batch_refusal, edited};
 ghost use Rattle.line_text.specs.BatchRefusals.{HasCause};
 ghost use Rattle.answer_defs.specs.Answers.{question_refusal};
+ghost use Rattle.answer_defs.specs.TokenAnswers.{tokens_in};
+ghost use Rattle.document_defs.specs.TextRows.{rows_of, tokens_of};
 ghost use Rattle.document_defs.specs.DocumentAnswers.{answer_of};
 ghost use Rattle.document.specs.AskRefusals.{HasAskCause};
 ghost use Rattle.document.specs.Settings.{settings_by};
 
+use crate::answers::{answer_of_rows, line_chars, typed_tokens};
+use crate::lines::{Over, mark_lines, run_line};
 use crate::refusals::question_refusal;
-use answer_defs::{Answer, MOST_TAB, Question, QuestionRefusal};
-use bracket_lex::Brackets;
+use answer_defs::{Answer, MOST_TAB, Question, QuestionRefusal, TypedTokens};
+use bracket_lex::{Brackets, Paired};
 use line_runs::LineRuns;
 use line_text::{Edit, EditRefusal, Edited, Text};
 use onig_match::Work;
 use std::alloc::{AllocError, Global};
 use std::marker::{Brand, Model};
 use std::sync::ledger::{Blank, Ledger};
+use step_count::Steps;
 use text_pos::Limits;
 use thiserror::Error;
 
@@ -136,6 +141,54 @@ impl<R: LineRuns + Drop> Document<R> {
 }
 
 impl<R: LineRuns + Drop> Document<R> {
+    /// The rows of the text.
+    fn paired<L: Ledger>(
+        &mut self,
+        alloc: Global,
+        steps: &mut Steps<L>,
+    ) -> Result<Paired, AllocError>
+        ensures rows { IfOk result (λ rows.
+            rows ≡ rows_of (settings_by (R.told self.old.machine) self.old.texts self.old.limits) self.old.text) }
+        ensures text { self.new.text ≡ self.old.text }
+        ensures told { R.told self.new.machine ≡ R.told self.old.machine }
+        ensures texts { self.new.texts ≡ self.old.texts }
+        ensures limits { self.new.limits ≡ self.old.limits }
+    {
+        let over = Over {
+            alloc,
+            text: &self.text,
+            brackets: &self.brackets,
+            limits: self.limits,
+        };
+        let marks = mark_lines(&over, &mut self.machine, &mut self.work, steps)?;
+        Paired::of(alloc, &marks, marks.end(), self.limits.nesting)
+    }
+
+    /// The tokens of line n.
+    fn tokens<L: Ledger>(
+        &mut self,
+        alloc: Global,
+        n: u32,
+        steps: &mut Steps<L>,
+    ) -> Result<TypedTokens, AllocError>
+        requires { n < line_count self.old.text }
+        ensures tokens { IfOk result (λ typed. typed ≡ tokens_in (slice_index_or
+            (tokens_of (settings_by (R.told self.old.machine) self.old.texts self.old.limits) self.old.text) n [])) }
+        ensures text { self.new.text ≡ self.old.text }
+        ensures told { R.told self.new.machine ≡ R.told self.old.machine }
+        ensures texts { self.new.texts ≡ self.old.texts }
+        ensures limits { self.new.limits ≡ self.old.limits }
+    {
+        let over = Over {
+            alloc,
+            text: &self.text,
+            brackets: &self.brackets,
+            limits: self.limits,
+        };
+        let run = run_line(&over, n, &mut self.machine, &mut self.work, steps)?;
+        typed_tokens(alloc, run.tokens().as_slice())
+    }
+
     fn answer<L: Ledger>(
         &mut self,
         alloc: Global,
@@ -153,6 +206,14 @@ impl<R: LineRuns + Drop> Document<R> {
         ensures texts { self.new.texts ≡ self.old.texts }
         ensures limits { self.new.limits ≡ self.old.limits }
     {
-        Err(AllocError)
+        let mut steps = Steps::<L>::begin(blank);
+        match *question {
+            Question::Line { line } => Ok(Answer::Line(line_chars(alloc, &self.text, line)?)),
+            Question::Tokens { line } => Ok(Answer::Tokens(self.tokens(alloc, line, &mut steps)?)),
+            _ => {
+                let rows = self.paired(alloc, &mut steps)?;
+                answer_of_rows(alloc, rows.rows(), &self.text, self.limits.tab, question)
+            }
+        }
     }
 }
