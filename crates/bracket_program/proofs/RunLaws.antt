@@ -1,6 +1,6 @@
 -- What each clause about a run says, from what is told of its status.
 use Rattle.std.proofs.Common.{◌≡◌, ◌⊎◌, ◌↔◌, ℕ, ◌<◌, ◌≤◌, List, [], ◌++◌, length, refl, sym, ap, subst, ◌∙◌, arith}
-use Rattle.std.proofs.Common.{length-append, append-nil}
+use Rattle.std.proofs.Common.{length-append, append-nil, inl, inr}
 use Rattle.std.specs.Prelude.{Option, Some, None, IfSome, ⊤}
 use Rattle.piece_io.specs.Told.{Told, appended, risen}
 use Rattle.session_defs.specs.declared.file_kind.FileKind.{FileKind}
