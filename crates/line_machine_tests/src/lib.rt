@@ -9,3 +9,5 @@ mod lines;
 mod rows;
 #[cfg(test)]
 mod tests;
+#[cfg(test)]
+mod worked;
