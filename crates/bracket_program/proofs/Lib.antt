@@ -1,7 +1,8 @@
+mod FileLaws
 mod GivenLines
 mod LineReadings
+mod OpenLaws
 mod Replying
-mod Requests
 mod RunLaws
 mod Scripts
 mod ServingLaws
