@@ -30,7 +30,7 @@ fn small_grammar(alloc: Global) -> Result<Machine, AllocError> {
     if !has_root(&table) {
         return Err(AllocError);
     }
-    Machine::new(alloc, table, "s", LIMITS)
+    Machine::new(alloc, table, "s", 0, LIMITS)
 }
 
 fn opened<R: LineRuns + Drop>(

@@ -10,3 +10,5 @@ mod lines;
 pub mod rows;
 #[cfg(test)]
 mod tests;
+#[cfg(test)]
+mod worked;
