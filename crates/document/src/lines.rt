@@ -92,8 +92,8 @@ pub(crate) fn run_line<R: LineRuns, L: Ledger>(
 {
     let mut start = machine.start().copy()?;
     for m in 0..n {
-        let run = machine.tokenise(work, &start, over.text.line(m), steps)?;
-        start = run.end().copy()?;
+        let earlier = machine.tokenise(work, &start, over.text.line(m), steps)?;
+        start = earlier.end().copy()?;
     }
     let run = machine.tokenise(work, &start, over.text.line(n), steps)?;
     Ok(run)
