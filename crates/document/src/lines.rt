@@ -67,7 +67,10 @@ pub(crate) fn mark_lines<R: LineRuns, L: Ledger>(
         let line = over.text.line(n);
         let run = machine.tokenise(work, &start, line, steps)?;
         fill_types(&mut types, run.tokens().as_slice())?;
-        lines.push(over.brackets.marks(over.alloc, line, &types, over.limits.long)?)?;
+        lines.push(
+            over.brackets
+                .marks(over.alloc, line, &types, over.limits.long)?,
+        )?;
         start = run.end().copy()?;
     }
     Ok(lines)

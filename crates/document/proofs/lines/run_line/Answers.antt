@@ -1,4 +1,4 @@
-use Rattle.std.proofs.Common.{◌≡◌, ◌<◌, List, ℕ, refl, sym, ap, subst, ◌∙◌, length, arith}
+use Rattle.std.proofs.Common.{◌≡◌, ◌<◌, List, ℕ, refl, ap, ◌∙◌, length, arith}
 use Rattle.text_defs.specs.Text.{lines_of, line_in}
 use Rattle.scope_defs.specs.Frames.{Start, bare}
 use Rattle.line_defs.specs.Line.{LineResult}
