@@ -9,13 +9,16 @@ use Rattle.pairing_defs.specs.declared.Row.{Row}
 use Rattle.answer_defs.specs.declared.answer.MarkAt.{MarkAt}
 use Rattle.answer_defs.specs.declared.pair_answer.Twin.{Twin}
 use Rattle.answer_defs.specs.PairAnswers.{opens, partner_of, mark_at, encloses, encloses_closed, level_in, around_in}
-use Rattle.answer_defs.specs.PairAnswers.{twin, twin_of, find_last}
+use Rattle.answer_defs.specs.PairAnswers.{twin, twin_of, find_last, stands_at, ends_at, touched, match_in, starts_from, reaches_lines}
+use Rattle.answer_defs.specs.PairAnswers.{has_guide, pair_row, guide_row, pairs_in, guides_of_line}
+use Rattle.answer_defs.specs.Answers.{bracket_row, is_in_lines, brackets_in}
 use Rattle.tree_defs.specs.Tree.{Tree}
 use Rattle.tree_defs.specs.Items.{items_of}
 use Rattle.tree_defs.specs.Items as items
 use Rattle.tree_defs.specs.Rows.{start, tree_rows, AreFull}
 use Rattle.tree_queries.specs.Known.{Known, known}
-use Rattle.tree_queries.specs.Answers.{by_row, twin_known, twin_with, level_known, around_known}
+use Rattle.tree_queries.specs.Answers.{by_row, twin_known, twin_with, level_known, around_known, touches, match_known}
+use Rattle.tree_queries.specs.Answers.{brackets_known, pair_known, pairs_known, guides_known}
 use Rattle.tree_queries.specs.Told.{HasRows, IsPlaced}
 use Rattle.tree_queries.specs.Parts.{Placed}
 use Rattle.tree_queries.proofs.Opened.{known_items, Opens}
@@ -123,10 +126,67 @@ module _ (all : List Row) where
   pub encloses_agrees : (at : Pos) → Agrees (encloses at)
   encloses_agrees at r x told = rw (told.opener, told.at, told.to, told.inner) refl
 
+  touches_agrees : (over : Bool) (at : Pos) → Agrees (touches over at)
+  touches_agrees true at r x told = rw (told.at, told.to) refl
+  touches_agrees false at r x told = rw (told.at, told.to) refl
+
+  pub touched_told : (over : Bool) (at : Pos) (rs : List Row) (xs : List Known) → AreTold all rs xs
+      → FoundTold (find (touches over at) rs) (find (by_row (touches over at)) xs)
+  touched_told over at rs xs told = find_told (touches over at) (touches_agrees over at) rs xs told
+
+  pub starts_agrees : (at : Pos) → Agrees (starts_from at)
+  starts_agrees at r x told = rw told.at refl
+
+  pub in_lines_agrees : (a b : ℕ) → Agrees (is_in_lines a b)
+  in_lines_agrees a b r x told = rw told.at refl
+
+  pub reaches_agrees : (a b : ℕ) → Agrees (reaches_lines a b)
+  reaches_agrees a b r x told = rw (told.opener, told.at, told.inner) refl
+
+  pub guide_agrees : (n : ℕ) → Agrees (has_guide n)
+  guide_agrees n r x told = rw (told.opener, told.at, told.inner, told.closed) refl
+
+  pub bracket_rows_told : (r : Row) (x : Known) → IsTold all r x → bracket_row r ≡ bracket_row x.row
+  bracket_rows_told r x told = rw (told.at, told.to, told.level, told.own, told.colour) refl
+
+  pub pair_rows_told : (r : Row) (x : Known) → IsTold all r x → pair_row all r ≡ pair_known x
+  pair_rows_told r x told = rw (told.at, told.to, told.level, told.own, told.mate) refl
+
+  pub guide_rows_told : (tab : ℕ) (lines : List (List ℕ)) (n : ℕ) (r : Row) (x : Known) → IsTold all r x
+      → guide_row tab lines n r ≡ guide_row tab lines n x.row
+  guide_rows_told tab lines n r x told = rw (told.at, told.level, told.inner) refl
+
   pub encloses_closed_agrees : (at : Pos) → Agrees (encloses_closed at)
   encloses_closed_agrees at r x told = rw (encloses_agrees at r x told, told.closed) refl
 
 -- ---- the answers
+pub match_is : (t : Tree) (rows : List Row) (at : Pos) → IsPlaced t → HasRows t rows
+    → match_in rows at ≡ match_known at (known t start [])
+match_is t rows at placed has =
+    let told = whole_told t rows placed has in
+    twins_told rows (touched at rows) _
+    (or_told rows (find (stands_at at) rows) (find (ends_at at) rows) _ _
+    (touched_told rows true at rows (known t start []) told) (touched_told rows false at rows (known t start []) told))
+
+pub brackets_are : (t : Tree) (rows : List Row) (a b : ℕ) → IsPlaced t → HasRows t rows
+    → brackets_in a b rows ≡ brackets_known a b (known t start [])
+brackets_are t rows a b placed has =
+    map_told rows bracket_row (λ x. bracket_row x.row) (bracket_rows_told rows) _ _
+    (filter_told rows (is_in_lines a b) (in_lines_agrees rows a b) rows (known t start []) (whole_told t rows placed has))
+
+pub pairs_are : (t : Tree) (rows : List Row) (a b : ℕ) → IsPlaced t → HasRows t rows
+    → pairs_in rows a b ≡ pairs_known a b (known t start [])
+pairs_are t rows a b placed has =
+    map_told rows (pair_row rows) pair_known (pair_rows_told rows) _ _
+    (filter_told rows (reaches_lines a b) (reaches_agrees rows a b) rows (known t start [])
+    (whole_told t rows placed has))
+
+pub guides_are : (t : Tree) (rows : List Row) (tab : ℕ) (lines : List (List ℕ)) (n : ℕ) → IsPlaced t → HasRows t rows
+    → guides_of_line tab lines rows n ≡ guides_known tab lines (known t start []) n
+guides_are t rows tab lines n placed has =
+    map_told rows (guide_row tab lines n) (λ x. guide_row tab lines n x.row) (guide_rows_told rows tab lines n) _ _
+    (filter_told rows (has_guide n) (guide_agrees rows n) rows (known t start []) (whole_told t rows placed has))
+
 pub level_is : (t : Tree) (rows : List Row) (at : Pos) → IsPlaced t → HasRows t rows
     → level_in rows at ≡ level_known at (known t start [])
 level_is t rows at placed has = length_told rows (filter (encloses at) rows) _

@@ -1,5 +1,5 @@
 -- The children of a list and the parts of a pair, at their places.
-use Rattle.std.proofs.Common.{◌≡◌, ℕ, ◌+◌, ◌<◌, ◌≤◌, ◌^◌, List, [], ◌∷◌, ◌++◌, max, true, false, Option, Some, None}
+use Rattle.std.proofs.Common.{◌≡◌, ℕ, ◌+◌, ◌<◌, ◌≤◌, ◌^◌, List, [], ◌∷◌, ◌++◌, max, Bool, true, false, not, Option, Some, None}
 use Rattle.std.proofs.Common.{refl, sym, ap, ◌∙◌, subst, arith, append_assoc, append-nil}
 use Rattle.std.specs.Option.{option_map}
 use Rattle.text_pos.specs.declared.length.Length.{Length}
@@ -16,11 +16,11 @@ use Rattle.bracket_ast.specs.Sorts.{sort_of}
 use Rattle.bracket_ast.specs.Weight.{weight}
 use Rattle.bracket_ast.specs.declared.node.Sort.TheVariants as sort
 use Rattle.tree_queries.specs.Known.{Known, known, end_inside, piece}
-use Rattle.tree_queries.specs.Parts.{Placed, Each, IsEarly, IsLate, Narrows, IsCloserAt}
+use Rattle.tree_queries.specs.Parts.{Placed, Each, IsEarly, IsLate, Narrows, IsCloserAt, left_of}
 use Rattle.tree_queries.specs.declared.parts.Part.{Part}
 use Rattle.tree_queries.proofs.Lists.{each_more, each_append}
 use Rattle.tree_queries.proofs.Order.{up_to_trans, before_trans, trans_before, up_to_plus, up_to_itself}
-use Rattle.tree_queries.proofs.Spans.{spans, early, late, closed_end}
+use Rattle.tree_queries.proofs.Spans.{spans, early, late, early_over, late_over, closed_end}
 
 -- where a node ends is of 32 bits
 pub end_fits : (t : Tree) (at : Length) → fits at ≡ true → Placed t at → fits (plus at (length_of t)) ≡ true
@@ -100,95 +100,115 @@ closer_piece o k inside None end = refl
 closer_piece o k inside (Some c) end = refl
 
 -- ---- lists
+not_true : (b : Bool) → not b ≡ true → b ≡ false
+not_true false is = refl
+not_true true is = cc
+
+not_false : (b : Bool) → not b ≡ false → b ≡ true
+not_false true is = refl
+not_false false is = cc
+
 -- what ends before a place, and what starts there or behind it
-all_early : (t : Tree) (from : Length) (at : Pos) → Placed t from
-    → is_before (place (plus from (length_of t))) at ≡ true
-    → (kinds : List ℕ) → Each (IsEarly at) (known t from kinds)
-all_early t from at p ends kinds =
+all_early : (over : Bool) (t : Tree) (from : Length) (at : Pos) → Placed t from
+    → left_of over (place (plus from (length_of t))) at ≡ true
+    → (kinds : List ℕ) → Each (IsEarly over at) (known t from kinds)
+all_early false t from at p ends kinds =
     each_more _ _ (early (place from) (place (plus from (length_of t))) at ends) (known t from kinds)
     (spans t from kinds p)
-
-all_late : (t : Tree) (from : Length) (at : Pos) → Placed t from → is_before (place from) at ≡ false
-    → (kinds : List ℕ) → Each (IsLate at) (known t from kinds)
-all_late t from at p starts kinds =
-    each_more _ _ (late (place from) (place (plus from (length_of t))) at starts) (known t from kinds)
+all_early true t from at p ends kinds =
+    each_more _ _ (early_over (place from) (place (plus from (length_of t))) at
+    (not_true (is_before at (place (plus from (length_of t)))) ends)) (known t from kinds)
     (spans t from kinds p)
 
-pub second_of_two : (a b : Tree) (from : Length) (at : Pos) (p : Part) → Placed (Two a b) from → p.node.now ≡ b
-    → p.from ≡ plus from (length_of a) → is_before (place (plus from (length_of a))) at ≡ true
-    → Narrows (Two a b) from at p
-second_of_two a b from at p placed is starts before = record {
+all_late : (over : Bool) (t : Tree) (from : Length) (at : Pos) → Placed t from → left_of over (place from) at ≡ false
+    → (kinds : List ℕ) → Each (IsLate over at) (known t from kinds)
+all_late false t from at p starts kinds =
+    each_more _ _ (late (place from) (place (plus from (length_of t))) at starts) (known t from kinds)
+    (spans t from kinds p)
+all_late true t from at p starts kinds =
+    each_more _ _ (late_over (place from) (place (plus from (length_of t))) at
+    (not_false (is_before at (place from)) starts)) (known t from kinds)
+    (spans t from kinds p)
+
+left_trans : (over : Bool) (a b at : Pos) → is_before b a ≡ false → left_of over b at ≡ true → left_of over a at ≡ true
+left_trans false a b at up left = trans_before a b at up left
+left_trans true a b at up left = ap not (up_to_trans a b at up (not_true (is_before at b) left))
+
+pub second_of_two : (over : Bool) (a b : Tree) (from : Length) (at : Pos) (p : Part) → Placed (Two a b) from → p.node.now ≡ b
+    → p.from ≡ plus from (length_of a) → left_of over (place (plus from (length_of a))) at ≡ true
+    → Narrows over (Two a b) from at p
+second_of_two over a b from at p placed is starts before = record {
   before = λ kinds. known a from kinds;
   after = λ kinds. [];
   are = λ kinds. rw (is, starts) (ap (λ l. known a from kinds ++ l)
       (sym (append-nil (known b (plus from (length_of a)) kinds))));
-  early = all_early a from at placed.0 before;
+  early = all_early over a from at placed.0 before;
   late = λ kinds. tt;
   placed = rw (is, starts) placed.1;
   lighter = rw is (omega arith);
   shallow = rw is (omega arith);
 }
 
-pub first_of_two : (a b : Tree) (from : Length) (at : Pos) (p : Part) → Placed (Two a b) from → p.node.now ≡ a
-    → p.from ≡ from → is_before (place (plus from (length_of a))) at ≡ false → Narrows (Two a b) from at p
-first_of_two a b from at p placed is starts late = record {
+pub first_of_two : (over : Bool) (a b : Tree) (from : Length) (at : Pos) (p : Part) → Placed (Two a b) from → p.node.now ≡ a
+    → p.from ≡ from → left_of over (place (plus from (length_of a))) at ≡ false → Narrows over (Two a b) from at p
+first_of_two over a b from at p placed is starts late = record {
   before = λ kinds. [];
   after = λ kinds. known b (plus from (length_of a)) kinds;
   are = λ kinds. rw (is, starts) refl;
   early = λ kinds. tt;
-  late = all_late b (plus from (length_of a)) at placed.1 late;
+  late = all_late over b (plus from (length_of a)) at placed.1 late;
   placed = rw (is, starts) placed.0;
   lighter = rw is (omega arith);
   shallow = rw is (omega arith);
 }
 
-module _ (a b c : Tree) (from : Length) (at : Pos) (p : Part) (placed : Placed (Three a b c) from) where
+module _ (over : Bool) (a b c : Tree) (from : Length) (at : Pos) (p : Part) (placed : Placed (Three a b c) from) where
   abbrev mid : Length
   mid = plus from (length_of a)
 
   abbrev last : Length
   last = plus mid (length_of b)
 
-  pub third_of_three : p.node.now ≡ c → p.from ≡ last → is_before (place last) at ≡ true
-      → Narrows (Three a b c) from at p
+  pub third_of_three : p.node.now ≡ c → p.from ≡ last → left_of over (place last) at ≡ true
+      → Narrows over (Three a b c) from at p
   third_of_three is starts before = record {
     before = λ kinds. known a from kinds ++ known b mid kinds;
     after = λ kinds. [];
     are = λ kinds. rw (is, starts)
         (sym (append_assoc (known a from kinds) (known b mid kinds) (known c last kinds ++ [])
         ∙ ap (λ l. known a from kinds ++ (known b mid kinds ++ l)) (append-nil (known c last kinds))));
-    early = λ kinds. each_append (IsEarly at) (known a from kinds) (known b mid kinds)
-        (all_early a from at placed.0 (trans_before (place mid) (place last) at (up_to_plus mid (length_of b)) before)
+    early = λ kinds. each_append (IsEarly over at) (known a from kinds) (known b mid kinds)
+        (all_early over a from at placed.0 (left_trans over (place mid) (place last) at (up_to_plus mid (length_of b)) before)
         kinds)
-        (all_early b mid at placed.1 before kinds);
+        (all_early over b mid at placed.1 before kinds);
     late = λ kinds. tt;
     placed = rw (is, starts) placed.2;
     lighter = rw is (omega arith);
     shallow = rw is (omega arith);
   }
 
-  pub second_of_three : p.node.now ≡ b → p.from ≡ mid → is_before (place mid) at ≡ true
-      → is_before (place last) at ≡ false → Narrows (Three a b c) from at p
+  pub second_of_three : p.node.now ≡ b → p.from ≡ mid → left_of over (place mid) at ≡ true
+      → left_of over (place last) at ≡ false → Narrows over (Three a b c) from at p
   second_of_three is starts before behind = record {
     before = λ kinds. known a from kinds;
     after = λ kinds. known c last kinds;
     are = λ kinds. rw (is, starts) refl;
-    early = λ kinds. all_early a from at placed.0 before kinds;
-    late = λ kinds. all_late c last at placed.2 behind kinds;
+    early = λ kinds. all_early over a from at placed.0 before kinds;
+    late = λ kinds. all_late over c last at placed.2 behind kinds;
     placed = rw (is, starts) placed.1;
     lighter = rw is (omega arith);
     shallow = rw is (omega arith);
   }
 
-  pub first_of_three : p.node.now ≡ a → p.from ≡ from → is_before (place mid) at ≡ false
-      → is_before (place last) at ≡ false → Narrows (Three a b c) from at p
+  pub first_of_three : p.node.now ≡ a → p.from ≡ from → left_of over (place mid) at ≡ false
+      → left_of over (place last) at ≡ false → Narrows over (Three a b c) from at p
   first_of_three is starts here behind = record {
     before = λ kinds. [];
     after = λ kinds. known b mid kinds ++ known c last kinds;
     are = λ kinds. rw (is, starts) refl;
     early = λ kinds. tt;
-    late = λ kinds. each_append (IsLate at) (known b mid kinds) (known c last kinds)
-        (all_late b mid at placed.1 here kinds) (all_late c last at placed.2 behind kinds);
+    late = λ kinds. each_append (IsLate over at) (known b mid kinds) (known c last kinds)
+        (all_late over b mid at placed.1 here kinds) (all_late over c last at placed.2 behind kinds);
     placed = rw (is, starts) placed.0;
     lighter = rw is (omega arith);
     shallow = rw is (omega arith);

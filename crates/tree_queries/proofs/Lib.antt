@@ -1,4 +1,5 @@
 pub mod Answered
+pub mod AtPlaces
 pub mod Children
 pub mod Lists
 pub mod Order

@@ -37,21 +37,21 @@ and_not : (a b : Bool) → a ≡ false → (a && b) ≡ false
 and_not a b is = rw is refl
 
 -- what is early or late isn't around the place
-early_open : (at : Pos) (x : Known) → IsEarly at x → by_row (encloses at) x ≡ false
+early_open : (at : Pos) (x : Known) → IsEarly false at x → by_row (encloses at) x ≡ false
 early_open at x e = not_and (is_opener x.row) _ (not_and (is_up_to (end_of x.row) at) (is_up_to at x.row.inner)
     (ap not e.1))
 
-late_open : (at : Pos) (x : Known) → IsLate at x → by_row (encloses at) x ≡ false
+late_open : (at : Pos) (x : Known) → IsLate false at x → by_row (encloses at) x ≡ false
 late_open at x e = not_and (is_opener x.row) _
     (and_not (is_up_to (end_of x.row) at) (is_up_to at x.row.inner) (ap not e.1))
 
-early_closed : (at : Pos) (x : Known) → IsEarly at x → by_row (encloses_closed at) x ≡ false
+early_closed : (at : Pos) (x : Known) → IsEarly false at x → by_row (encloses_closed at) x ≡ false
 early_closed at x e = and_not (encloses at x.row) (is_some x.row.partner) (early_open at x e)
 
-late_closed : (at : Pos) (x : Known) → IsLate at x → by_row (encloses_closed at) x ≡ false
+late_closed : (at : Pos) (x : Known) → IsLate false at x → by_row (encloses_closed at) x ≡ false
 late_closed at x e = and_not (encloses at x.row) (is_some x.row.partner) (late_open at x e)
 
-pub level_narrows : (t : Tree) (from : Length) (at : Pos) (p : Part) → Narrows t from at p → (kinds : List ℕ)
+pub level_narrows : (t : Tree) (from : Length) (at : Pos) (p : Part) → Narrows false t from at p → (kinds : List ℕ)
     → level_known at (known t from kinds) ≡ level_known at (known p.node.now p.from kinds)
 level_narrows t from at p n kinds =
     ap (λ l. level_known at l) (n.are kinds)
@@ -59,7 +59,7 @@ level_narrows t from at p n kinds =
     (each_more _ _ (early_open at) (n.before kinds) (n.early kinds))
     (each_more _ _ (late_open at) (n.after kinds) (n.late kinds)))
 
-pub around_narrows : (t : Tree) (from : Length) (at : Pos) (p : Part) → Narrows t from at p → (kinds : List ℕ)
+pub around_narrows : (t : Tree) (from : Length) (at : Pos) (p : Part) → Narrows false t from at p → (kinds : List ℕ)
     → around_known at (known t from kinds) ≡ around_known at (known p.node.now p.from kinds)
 around_narrows t from at p n kinds =
     ap (λ l. around_known at l) (n.are kinds)
@@ -137,23 +137,23 @@ module _ (t : Tree) (from : Length) (p : PairAt) (at : Pos) (i : IsPairAt t from
       ∙ ap (λ x. is_up_to (place (plus from i.opener)) at && is_up_to at (place x)) i.ends
 
   -- the inside of the pair, as the code has it
-  inside_same : (kinds : List ℕ) → known i.inside (plus from i.opener) kinds ≡ known (inner_tree p) p.begin kinds
+  pub inside_same : (kinds : List ℕ) → known i.inside (plus from i.opener) kinds ≡ known (inner_tree p) p.begin kinds
   inside_same kinds = ap (λ x. known x (plus from i.opener) kinds) (sym i.within)
       ∙ ap (λ x. known (inner_tree p) x kinds) (sym i.begin)
 
-  abbrev end : Length
+  abbrev pub end : Length
   end = end_inside from i.opener i.inside
 
-  abbrev first : List ℕ → Known
+  abbrev pub first : List ℕ → Known
   first kinds = opener_bracket from i.opener p.kind kinds (option_map (piece end) i.closer) end
 
-  abbrev more : List ℕ → List Known
+  abbrev pub more : List ℕ → List Known
   more kinds = closers end p.kind kinds from i.opener i.closer
 
-  abbrev ins : List ℕ → List Known
+  abbrev pub ins : List ℕ → List Known
   ins kinds = known i.inside (plus from i.opener) (kinds ++ p.kind ∷ [])
 
-  whole : (kinds : List ℕ) → known t from kinds ≡ first kinds ∷ (ins kinds ++ more kinds)
+  pub whole : (kinds : List ℕ) → known t from kinds ≡ first kinds ∷ (ins kinds ++ more kinds)
   whole kinds = ap (λ x. known x from kinds) i.are ∙ known_pair i.opener p.kind i.inside i.closer from kinds
 
   first_around : (kinds : List ℕ) (b : Bool) → is_around p at ≡ b → by_row (encloses at) (first kinds) ≡ b

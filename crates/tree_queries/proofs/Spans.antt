@@ -124,13 +124,19 @@ spans (Three a b c) at kinds p =
     (both a (Two b c) at kinds (spans a at kinds p.0) tail)
 
 -- ---- early and late
-pub early : (lo hi at : Pos) → is_before hi at ≡ true → (x : Known) → InSpan lo hi x → IsEarly at x
+pub early : (lo hi at : Pos) → is_before hi at ≡ true → (x : Known) → InSpan lo hi x → IsEarly false at x
 early lo hi at ends x s = (
   trans_before (end_of x.row) hi at s.to ends,
   trans_before x.row.inner hi at s.inner ends,
 )
 
-pub late : (lo hi at : Pos) → is_before lo at ≡ false → (x : Known) → InSpan lo hi x → IsLate at x
+pub late : (lo hi at : Pos) → is_before lo at ≡ false → (x : Known) → InSpan lo hi x → IsLate false at x
 late lo hi at starts x s =
     let from : is_before x.row.mark.at at ≡ false = up_to_trans at lo x.row.mark.at starts s.from in
     (from, trans_before at x.row.mark.at (end_of x.row) from s.some)
+
+pub early_over : (lo hi at : Pos) → is_before at hi ≡ false → (x : Known) → InSpan lo hi x → IsEarly true at x
+early_over lo hi at ends x s = up_to_trans (end_of x.row) hi at s.to ends
+
+pub late_over : (lo hi at : Pos) → is_before at lo ≡ true → (x : Known) → InSpan lo hi x → IsLate true at x
+late_over lo hi at starts x s = before_trans at lo x.row.mark.at starts s.from

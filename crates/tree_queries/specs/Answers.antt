@@ -1,5 +1,6 @@
 -- The answers, from the brackets of a tree.
-use Rattle.std.specs.Prelude.{ℕ, suc, ◌-◌, List, [], ◌∷◌, length, map, filter, flat_map, reverse, min, Bool, Option}
+use Rattle.std.specs.Prelude.{ℕ, suc, ◌-◌, List, [], ◌∷◌, length, map, filter, flat_map, reverse, min, Bool, true, false, Option}
+use Rattle.std.specs.Prelude.{◌==◌, ◌&&◌, nat_le, nat_lt}
 use Rattle.std.specs.Prelude.{option_and_then, Some, None}
 use Rattle.std.specs.List.{find, range_with_len}
 use Rattle.std.specs.Option.{option_or, option_map}
@@ -15,6 +16,7 @@ use Rattle.answer_defs.specs.Answers.{bracket_row, is_in_lines}
 use Rattle.answer_defs.specs.PairAnswers.{span_of, mark_at, encloses, encloses_closed, stands_at, ends_at, starts_from}
 use Rattle.answer_defs.specs.PairAnswers.{second_start, reaches_lines, has_guide, guide_row}
 use Rattle.tree_queries.specs.Known.{Known}
+use Rattle.tree_queries.specs.declared.places.Touched.{Touched}
 
 -- a test of a row, of a bracket
 abbrev pub by_row : (Row → Bool) → Known → Bool
@@ -34,6 +36,21 @@ level_known at xs = length (filter (by_row (encloses at)) xs)
 
 abbrev pub around_known : Pos → List Known → Option Twin
 around_known at xs = option_and_then twin_known (find (by_row (encloses_closed at)) (reverse xs))
+
+-- what is at a place: a bracket that has a character behind the place, or with `false` one that ends there
+abbrev pub touches : Bool → Pos → Row → Bool
+touches true at r = stands_at at r
+touches false at r = ends_at at r
+
+abbrev pub touched_of : Known → Touched
+touched_of x = record { mark = mark_at x.row; mate = x.mate }
+
+abbrev pub twin_touched : Touched → Option Twin
+twin_touched t = option_map (λ m. record { first = span_at t.mark; second = span_at m }) t.mate
+
+abbrev pub mark_touches : Bool → Pos → MarkAt → Bool
+mark_touches true at m = (m.line == at.line) && (nat_le m.from at.col && nat_lt at.col m.to)
+mark_touches false at m = (m.line == at.line) && (m.to == at.col)
 
 abbrev pub standing_known : Pos → List Known → Option Known
 standing_known at xs = find (by_row (stands_at at)) xs

@@ -5,7 +5,9 @@ use Rattle.text_pos.specs.declared.length.Length.{Length}
 use Rattle.text_pos.specs.declared.length.Pos.{Pos}
 use Rattle.text_pos.specs.Lengths.{plus}
 use Rattle.text_defs.specs.Place.{is_before}
-use Rattle.answer_defs.specs.PairAnswers.{end_of}
+use Rattle.answer_defs.specs.PairAnswers.{end_of, is_up_to}
+use Rattle.text_pos.specs.declared.kinds.Kinds.{Kinds}
+use Rattle.answer_defs.specs.declared.answer.MarkAt.{MarkAt}
 use Rattle.tree_defs.specs.Tree.{Tree, Nothing, Text, Bracket, Lone, Pair, Two, Three, depth}
 use Rattle.tree_defs.specs.Shape.{length_of}
 use Rattle.tree_defs.specs.Ends.{IsInLine, fits}
@@ -36,24 +38,38 @@ abbrev pub Each : (Known → Type 0) → List Known → Type 0
 Each holds [] = Unit {0}
 Each holds (x ∷ xs) = holds x × Each holds xs
 
--- it and its inside end before a place
-abbrev pub IsEarly : Pos → Known → Type 0
-IsEarly at x = (is_before (end_of x.row) at ≡ true) × (is_before x.row.inner at ≡ true)
+-- An end lies before a place; with `over` it may lie right there.
+abbrev pub left_of : Bool → Pos → Pos → Bool
+left_of false end at = is_before end at
+left_of true end at = is_up_to end at
 
--- it starts at a place or behind it
-abbrev pub IsLate : Pos → Known → Type 0
-IsLate at x = (is_before x.row.mark.at at ≡ false) × (is_before at (end_of x.row) ≡ true)
+-- it and its inside end before a place, or with `over` it ends there or before it
+abbrev pub IsEarly : Bool → Pos → Known → Type 0
+IsEarly false at x = (is_before (end_of x.row) at ≡ true) × (is_before x.row.inner at ≡ true)
+IsEarly true at x = is_before at (end_of x.row) ≡ false
+
+-- it starts at a place or behind it, with `over` behind it
+abbrev pub IsLate : Bool → Pos → Known → Type 0
+IsLate false at x = (is_before x.row.mark.at at ≡ false) × (is_before at (end_of x.row) ≡ true)
+IsLate true at x = is_before at x.row.mark.at ≡ true
 
 -- a child of a list: what is left out on both sides is early or late
-pub record Narrows (t : Tree) (from : Length) (at : Pos) (p : Part) : Type 0 where
+pub record Narrows (over : Bool) (t : Tree) (from : Length) (at : Pos) (p : Part) : Type 0 where
   pub before : List ℕ → List Known
   pub after : List ℕ → List Known
   pub are : (kinds : List ℕ) → known t from kinds ≡ before kinds ++ (known p.node.now p.from kinds ++ after kinds)
-  pub early : (kinds : List ℕ) → Each (IsEarly at) (before kinds)
-  pub late : (kinds : List ℕ) → Each (IsLate at) (after kinds)
+  pub early : (kinds : List ℕ) → Each (IsEarly over at) (before kinds)
+  pub late : (kinds : List ℕ) → Each (IsLate over at) (after kinds)
   pub placed : Placed p.node.now p.from
   pub lighter : weight p.node.now < weight t
   pub shallow : depth p.node.now ≤ depth t
+
+-- a closer of nothing open, with its place
+pub record IsLoneAt (t : Tree) (from : Length) (m : MarkAt) : Type 0 where
+  pub len : Length
+  pub closes : Kinds
+  pub are : t ≡ Lone len closes
+  pub mark : m ≡ piece from len
 
 abbrev pub IsCloserAt : Length → Option Tree → Type 0
 IsCloserAt end None = Unit {0}

@@ -4,4 +4,4 @@
 mod parts;
 pub mod places;
 
-pub use places::{around, level_at};
+pub use places::{around, level_at, match_at};

@@ -10,7 +10,7 @@ ghost use Rattle.bracket_ast.specs.Shapes.{or_nothing, nows};
 ghost use Rattle.bracket_ast.specs.Sorts.{sort_of};
 ghost use Rattle.bracket_ast.specs.declared.node.Sort.TheVariants as sort;
 ghost use Rattle.tree_queries.specs.Known.{piece};
-ghost use Rattle.tree_queries.specs.Parts.{Placed, Narrows, IsPairAt, IsCloserAt, AreChildren};
+ghost use Rattle.tree_queries.specs.Parts.{Placed, Narrows, left_of, IsPairAt, IsLoneAt, IsCloserAt, AreChildren};
 
 use answer_defs::MarkAt;
 use bracket_ast::Node;
@@ -87,16 +87,26 @@ fn closer_at(end: Length, closer: Option<&Node>) -> Option<MarkAt>
     }
 }
 
-/// Of a list that starts at a place, the first child that doesn't end before another place.
-pub(crate) fn child_up_to(list: &Node, from: Length, at: Pos) -> Part<'_>
+/// The mark of a closer of nothing open.
+pub(crate) fn lone_at(node: &Node, from: Length) -> MarkAt
+    requires lone { sort_of node.now ≡ sort.Unexpected }
+    requires placed { Placed node.now from }
+    ensures { IsLoneAt node.now from result }
+{
+    piece(from, node.length())
+}
+
+/// Of a list that starts at a place, the first child that doesn't end before another place; with `over`, that ends behind
+/// it.
+pub(crate) fn child_at(list: &Node, from: Length, at: Pos, over: bool) -> Part<'_>
     requires list { sort_of list.now ≡ sort.List }
     requires placed { Placed list.now from }
-    ensures { Narrows list.entry.now from at result }
+    ensures { Narrows over list.entry.now from at result }
 {
     match apart(list) {
         Children::Two(a, b) => {
             let second = behind(from, a.length());
-            if ends_before(second, at) {
+            if is_left(second, at, over) {
                 node_at(b, second)
             } else {
                 node_at(a, from)
@@ -105,9 +115,9 @@ pub(crate) fn child_up_to(list: &Node, from: Length, at: Pos) -> Part<'_>
         Children::Three(a, b, c) => {
             let second = behind(from, a.length());
             let third = behind(second, b.length());
-            if ends_before(third, at) {
+            if is_left(third, at, over) {
                 node_at(c, third)
-            } else if ends_before(second, at) {
+            } else if is_left(second, at, over) {
                 node_at(b, second)
             } else {
                 node_at(a, from)
@@ -171,6 +181,17 @@ pub(crate) fn is_before(a: Pos, b: Length) -> bool
     ensures { result ≡ is_before a (place b) }
 {
     a.line < b.lines || (a.line == b.lines && a.col < b.cols)
+}
+
+/// Whether an end lies before a place; with `over` it may lie right there.
+fn is_left(end: Length, at: Pos, over: bool) -> bool
+    ensures { result ≡ left_of over (place end) at }
+{
+    if over {
+        !is_before(at, end)
+    } else {
+        ends_before(end, at)
+    }
 }
 
 /// Whether something ends before a place of a text.

@@ -22,5 +22,5 @@ innermost-returns-else-surrounds t c = λ kinds.
 pub innermost-returns-in-List : goal.innermost-returns-in-List
 innermost-returns-in-List t c = λ kinds.
     c.innermost.ensures kinds
-    ∙ sym (around_narrows c.args.node.now c.args.from c.args.at c.child_up_to-child.result c.child_up_to-child.ensures
+    ∙ sym (around_narrows c.args.node.now c.args.from c.args.at c.child_at-child.result c.child_at-child.ensures
     kinds)

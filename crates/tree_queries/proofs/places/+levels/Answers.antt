@@ -16,5 +16,5 @@ levels-returns-else-surrounds-clause-level t c = λ kinds.
 pub levels-returns-in-List-clause-level : goal.levels-returns-in-List-clause-level
 levels-returns-in-List-clause-level t c = λ kinds.
     c.levels.ensures.level kinds
-    ∙ sym (level_narrows c.args.node.now c.args.from c.args.at c.child_up_to-child.result c.child_up_to-child.ensures
+    ∙ sym (level_narrows c.args.node.now c.args.from c.args.at c.child_at-child.result c.child_at-child.ensures
     kinds)
