@@ -1,5 +1,6 @@
 //! Texts of brackets, their rows, and their trees.
-ghost use Rattle.std.specs.Prelude.{◌≡◌, ◌<◌, ◌≤◌, IfOk, length};
+ghost use Rattle.std.specs.Prelude.{◌≡◌, ◌<◌, ◌≤◌, ◌^◌, IfOk, length};
+ghost use Rattle.bracket_marks.specs.MarkedLine.{marks_in};
 ghost use Rattle.bracket_ast.specs.Shapes.{or_nothing};
 ghost use Rattle.mark_source.specs.Source.{AreMarked};
 ghost use Rattle.tree_queries.specs.Told.{IsPlaced};
@@ -18,6 +19,7 @@ use step_count::Steps;
 pub(crate) fn lines_of(alloc: Global, text: &Text) -> Result<MarkLines, AllocError>
     ensures marked { IfOk result (λ lines. AreMarked lines) }
     ensures some { IfOk result (λ lines. 0 < length lines) }
+    ensures few { IfOk result (λ lines. length (marks_in lines) < 2 ^ 32) }
 {
     let brackets = Brackets::usual(alloc)?;
     let lines = MarkLines::of_text(alloc, &brackets, text, 20_000)?;
