@@ -4,6 +4,9 @@ pub mod Children
 pub mod Lists
 pub mod Order
 pub mod Opened
+pub mod Outcomes
 pub mod NodePlaces
+pub mod PairRows
+pub mod GuideRows
 pub mod Spans
 pub mod Tied

@@ -37,11 +37,11 @@ and_not : (a b : Bool) → a ≡ false → (a && b) ≡ false
 and_not a b is = rw is refl
 
 -- what is early or late isn't around the place
-early_open : (at : Pos) (x : Known) → IsEarly false at x → by_row (encloses at) x ≡ false
+pub early_open : (at : Pos) (x : Known) → IsEarly false at x → by_row (encloses at) x ≡ false
 early_open at x e = not_and (is_opener x.row) _ (not_and (is_up_to (end_of x.row) at) (is_up_to at x.row.inner)
     (ap not e.1))
 
-late_open : (at : Pos) (x : Known) → IsLate false at x → by_row (encloses at) x ≡ false
+pub late_open : (at : Pos) (x : Known) → IsLate false at x → by_row (encloses at) x ≡ false
 late_open at x e = not_and (is_opener x.row) _
     (and_not (is_up_to (end_of x.row) at) (is_up_to at x.row.inner) (ap not e.1))
 
@@ -83,7 +83,7 @@ known_pair o k inside None at kinds =
     (sym (append-nil (known inside (plus at o) (kinds ++ k ∷ []))))
 known_pair o k inside (Some c) at kinds = refl
 
-no_opener : (end : Length) (k : ℕ) (kinds : List ℕ) (at o : Length) (c : Option Length) (test : Known → Bool)
+pub no_opener : (end : Length) (k : ℕ) (kinds : List ℕ) (at o : Length) (c : Option Length) (test : Known → Bool)
     → ((x : Known) → is_opener x.row ≡ false → test x ≡ false) → Each (Fails test) (closers end k kinds at o c)
 no_opener end k kinds at o None test fails = tt
 no_opener end k kinds at o (Some c) test fails = (fails (closer_bracket end c k kinds (piece at o)) refl, tt)
@@ -156,11 +156,11 @@ module _ (t : Tree) (from : Length) (p : PairAt) (at : Pos) (i : IsPairAt t from
   pub whole : (kinds : List ℕ) → known t from kinds ≡ first kinds ∷ (ins kinds ++ more kinds)
   whole kinds = ap (λ x. known x from kinds) i.are ∙ known_pair i.opener p.kind i.inside i.closer from kinds
 
-  first_around : (kinds : List ℕ) (b : Bool) → is_around p at ≡ b → by_row (encloses at) (first kinds) ≡ b
+  pub first_around : (kinds : List ℕ) (b : Bool) → is_around p at ≡ b → by_row (encloses at) (first kinds) ≡ b
   first_around kinds b is =
       opener_around from i.opener p.kind kinds (option_map (piece end) i.closer) end at i.in_line ∙ sym around_of ∙ is
 
-  nothing_inside : is_around p at ≡ false → (kinds : List ℕ) → Each (λ x. by_row (encloses at) x ≡ false) (ins kinds)
+  pub nothing_inside : is_around p at ≡ false → (kinds : List ℕ) → Each (λ x. by_row (encloses at) x ≡ false) (ins kinds)
   nothing_inside out kinds =
       inside_out i.inside (plus from i.opener) at i.placed (sym around_of ∙ out) (kinds ++ p.kind ∷ [])
 

@@ -1,11 +1,11 @@
 -- Nodes at their places, and what a search over a list leaves out.
-use Rattle.std.specs.Prelude.{◌≡◌, ℕ, ◌+◌, ◌<◌, ◌≤◌, List, [], ◌∷◌, ◌++◌, Bool, true, false, Option, Some, None}
-use Rattle.std.specs.Option.{option_map}
+use Rattle.std.specs.Prelude.{◌≡◌, ℕ, ◌+◌, ◌<◌, ◌≤◌, List, [], ◌∷◌, length, ◌++◌, Bool, true, false, Option, Some, None}
+use Rattle.std.specs.Option.{option_map, is_some}
 use Rattle.text_pos.specs.declared.length.Length.{Length}
 use Rattle.text_pos.specs.declared.length.Pos.{Pos}
 use Rattle.text_pos.specs.Lengths.{plus}
 use Rattle.text_defs.specs.Place.{is_before}
-use Rattle.answer_defs.specs.PairAnswers.{end_of, is_up_to}
+use Rattle.answer_defs.specs.PairAnswers.{end_of, is_up_to, indentation_of}
 use Rattle.text_pos.specs.declared.kinds.Kinds.{Kinds}
 use Rattle.answer_defs.specs.declared.answer.MarkAt.{MarkAt}
 use Rattle.tree_defs.specs.Tree.{Tree, Nothing, Text, Bracket, Lone, Pair, Two, Three, depth}
@@ -13,7 +13,13 @@ use Rattle.tree_defs.specs.Shape.{length_of}
 use Rattle.tree_defs.specs.Ends.{IsInLine, fits}
 use Rattle.bracket_ast.specs.Shapes.{or_nothing, nows}
 use Rattle.bracket_ast.specs.Weight.{weight}
-use Rattle.tree_queries.specs.Known.{Known, known, piece, end_inside}
+use Rattle.std.specs.Prelude.{◌&&◌, nat_lt, if◌then◌else◌, min}
+use Rattle.answer_defs.specs.declared.pair_answer.GuideRow.{GuideRow}
+use Rattle.pairing_defs.specs.declared.Role.{Role}
+use Rattle.pairing_defs.specs.declared.Role.TheVariants.{Opener}
+use Rattle.pairing_defs.specs.Pairing.{colour_of}
+use Rattle.tree_defs.specs.Rows.{place}
+use Rattle.tree_queries.specs.Known.{Known, known, piece, end_inside, number, alike, some_closer}
 use Rattle.tree_queries.specs.declared.parts.Part.{Part}
 use Rattle.tree_queries.specs.declared.parts.PairAt.{PairAt}
 use Rattle.tree_queries.specs.declared.parts.Children.{Children}
@@ -92,3 +98,50 @@ pub record IsPairAt (t : Tree) (from : Length) (p : PairAt) : Type 0 where
   pub close : p.closer ≡ option_map (piece (end_inside from opener inside)) closer
   pub in_line : IsInLine opener
   pub placed : Placed inside (plus from opener)
+
+-- ---- the brackets of what is read
+
+abbrev pub start_of_mark : MarkAt → Pos
+start_of_mark m = record { line = m.line; col = m.from }
+
+abbrev pub at_mark : MarkAt → Role → ℕ → ℕ → Option MarkAt → Pos → Known
+at_mark m role level own mate inner = record {
+  row = record {
+    mark = record { at = start_of_mark m; to = m.to; role = role };
+    level = level;
+    own = own;
+    colour = colour_of level (number mate);
+    partner = number mate;
+    inner = inner;
+  };
+  mate = mate;
+}
+
+abbrev pub opener_at : MarkAt → ℕ → List ℕ → Option MarkAt → Length → Known
+opener_at m kind kinds mate end = at_mark m (Opener kind) (length kinds) (alike kind kinds) mate (place end)
+
+abbrev pub closers_at : MarkAt → ℕ → List ℕ → Option MarkAt → List Known
+closers_at opener kind kinds None = []
+closers_at opener kind kinds (Some c) =
+    at_mark c some_closer (length kinds) (alike kind kinds) (Some opener) (start_of_mark c) ∷ []
+
+abbrev pub pair_opener : PairAt → List ℕ → Known
+pair_opener p kinds = opener_at p.opener p.kind kinds p.closer p.end
+
+abbrev pub pair_closers : PairAt → List ℕ → List Known
+pair_closers p kinds = closers_at p.opener p.kind kinds p.closer
+
+abbrev pub lone_known : MarkAt → List ℕ → Known
+lone_known m kinds = at_mark m some_closer (length kinds) 0 None (start_of_mark m)
+
+-- whether a pair that is around a line's start has a guide there
+abbrev pub has_line : ℕ → PairAt → Bool
+has_line n p = is_some p.closer && nat_lt p.opener.line n
+
+abbrev pub guide_of : ℕ → List (List ℕ) → ℕ → ℕ → PairAt → List GuideRow
+guide_of tab lines n level p =
+    if has_line n p then record {
+      line = n;
+      column = min (indentation_of tab lines p.opener.line) (indentation_of tab lines p.end.lines);
+      level = level;
+    } ∷ [] else []

@@ -1,7 +1,8 @@
 //! Nodes at their places.
-ghost use Rattle.std.specs.Prelude.{◌≡◌, true};
+ghost use Rattle.std.specs.Prelude.{◌≡◌, ◌&&◌, true};
 ghost use Rattle.text_pos.specs.Lengths.{plus};
 ghost use Rattle.text_defs.specs.Place.{is_before};
+ghost use Rattle.answer_defs.specs.PairAnswers.{is_up_to};
 ghost use Rattle.tree_defs.specs.Rows.{place};
 ghost use Rattle.tree_defs.specs.Ends.{fits, IsInLine};
 ghost use Rattle.std.specs.Option.{option_map};
@@ -39,7 +40,7 @@ pub(crate) struct PairAt<'a> {
 
 /// The children of a list.
 #[derive(Clone, Copy)]
-enum Children<'a> {
+pub(crate) enum Children<'a> {
     Two(&'a Node, &'a Node),
     Three(&'a Node, &'a Node, &'a Node),
 }
@@ -127,7 +128,7 @@ pub(crate) fn child_at(list: &Node, from: Length, at: Pos, over: bool) -> Part<'
 }
 
 /// The children of a list.
-fn apart(list: &Node) -> Children<'_>
+pub(crate) fn apart(list: &Node) -> Children<'_>
     requires { sort_of list.now ≡ sort.List }
     ensures { AreChildren result list.entry.now }
 {
@@ -158,6 +159,14 @@ fn piece(at: Length, len: Length) -> MarkAt
     }
 }
 
+/// Where a node ends that starts at a place.
+pub(crate) fn end_of(node: &Node, from: Length) -> Length
+    requires { Placed node.now from }
+    ensures { result ≡ plus from (length_of node.now) }
+{
+    behind(from, node.length())
+}
+
 /// The place behind a piece.
 pub(crate) fn behind(at: Length, len: Length) -> Length
     requires { fits (plus at len) ≡ true }
@@ -174,6 +183,13 @@ pub(crate) fn behind(at: Length, len: Length) -> Length
             cols: len.cols,
         }
     }
+}
+
+/// Whether a pair is open at a place: its opener ends there or before it, and its inside there or behind it.
+pub(crate) fn surrounds(pair: &PairAt, at: Pos) -> bool
+    ensures { result ≡ (is_up_to (place pair.now.begin) at && is_up_to at (place pair.now.end)) }
+{
+    !is_before(at, pair.begin) && !ends_before(pair.end, at)
 }
 
 /// Whether a place of a text is before where something starts.

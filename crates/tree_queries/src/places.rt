@@ -1,18 +1,18 @@
 //! Answers about a place: the bracket there, the pairs around it, and where to jump.
-ghost use Rattle.std.specs.Prelude.{◌≡◌, ℕ, ◌≤◌, ◌&&◌, true, false, if◌then◌else◌, List, Some, None};
+ghost use Rattle.std.specs.Prelude.{◌≡◌, ℕ, ◌≤◌, true, false, if◌then◌else◌, List, Some, None};
 ghost use Rattle.std.specs.Prelude.{option_and_then};
 ghost use Rattle.std.specs.List.{find};
 ghost use Rattle.std.specs.Option.{option_map, option_or};
 ghost use Rattle.bracket_ast.specs.Shapes.{or_nothing, nows};
-ghost use Rattle.answer_defs.specs.PairAnswers.{level_in, around_in, match_in, is_up_to};
-ghost use Rattle.tree_defs.specs.Rows.{place, start};
+ghost use Rattle.answer_defs.specs.PairAnswers.{level_in, around_in, match_in};
+ghost use Rattle.tree_defs.specs.Rows.{start};
 ghost use Rattle.tree_defs.specs.Tree.{depth};
 ghost use Rattle.tree_queries.specs.Known.{known};
 ghost use Rattle.tree_queries.specs.Answers.{level_known, around_known, touches, touched_of, twin_touched, mark_touches, by_row, span_at};
 ghost use Rattle.tree_queries.specs.Told.{IsPlaced, AnswersFrom};
 ghost use Rattle.tree_queries.specs.Parts.{Placed, IsPairAt};
 
-use crate::parts::{PairAt, START, child_at, ends_before, is_before, lone_at, pair_at};
+use crate::parts::{PairAt, START, child_at, lone_at, pair_at, surrounds};
 use answer_defs::{MarkAt, Twin};
 use bracket_ast::{Node, Sort, Tree};
 use text_pos::{Length, Pos, Span};
@@ -64,13 +64,6 @@ fn levels_inside(pair: &PairAt, at: Pos) -> u32
         Some(inside) => levels(inside, pair.begin, at),
         None => 0,
     }
-}
-
-/// Whether a pair is open at a place: its opener ends there or before it, and its inside there or behind it.
-fn surrounds(pair: &PairAt, at: Pos) -> bool
-    ensures { result ≡ (is_up_to (place pair.now.begin) at && is_up_to at (place pair.now.end)) }
-{
-    !is_before(at, pair.begin) && !ends_before(pair.end, at)
 }
 
 /// Of the closed pairs around a place the one that opens last. A pair is around a place where its opener ends there or
