@@ -1,3 +1,4 @@
 pub mod Answers
 pub mod PairAnswers
 pub mod PairAnswerExamples
+pub mod TokenAnswers

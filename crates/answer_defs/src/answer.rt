@@ -1,4 +1,5 @@
 use crate::pair_answer::{GuideRows, PairRows, Twin};
+use crate::token_answer::TypedTokens;
 use text_pos::{Chars, Items, Pos};
 
 /// What can be asked of a text. Lines count from 0, and `to` is the last line of a range. The questions are
@@ -11,6 +12,8 @@ pub enum Question {
     Pairs { from: u32, to: u32 },
     /// The guides of these lines.
     Guides { from: u32, to: u32 },
+    /// The tokens of a line.
+    Tokens { line: u32 },
     /// The characters of a line.
     Line { line: u32 },
     /// The bracket at a place and its partner.
@@ -51,7 +54,7 @@ pub struct BracketRow {
 pub type Rows = Items<BracketRow>;
 
 /// What is answered to a question. The answers are this project's own.
-#[derive(Debug, Drop)]
+#[derive(Drop)]
 pub enum Answer {
     /// The brackets of the lines that were asked for.
     Brackets(Rows),
@@ -59,6 +62,8 @@ pub enum Answer {
     Pairs(PairRows),
     /// The guides of the lines that were asked for.
     Guides(GuideRows),
+    /// The tokens of the line, with their scopes and types.
+    Tokens(TypedTokens),
     /// The characters of the line.
     Line(Chars),
     /// The bracket at the place and its partner, where there are both.

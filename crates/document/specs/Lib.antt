@@ -1,2 +1,4 @@
 pub mod AskRefusals
+pub mod RowQuestions
+pub mod Settings
 pub mod State

@@ -1,40 +1,51 @@
-ghost use Rattle.std.specs.Prelude.{◌≡◌, ◌<◌, ◌≤◌, ◌^◌, length, None, Some, IfOk, IfErr, OnOk, OnErr};
+ghost use Rattle.std.specs.Prelude.{◌≡◌, ◌<◌, ◌≤◌, [], None, slice_index_or, IfOk, IfErr, OnOk, OnErr};
 ghost use Rattle.text_defs.specs.Text.{line_count};
 ghost use Rattle.text_defs.specs.Batch.{batch_refusal, edited};
 ghost use Rattle.line_text.specs.BatchRefusals.{HasCause};
-ghost use Rattle.answer_defs.specs.Answers.{answer_among, is_range, line_refusal, place_refusal, question_refusal, range_refusal};
-ghost use Rattle.document_defs.specs.TextRows.{rows_of, settings_of};
+ghost use Rattle.answer_defs.specs.Answers.{question_refusal};
+ghost use Rattle.answer_defs.specs.TokenAnswers.{tokens_in};
+ghost use Rattle.document_defs.specs.TextRows.{rows_of, tokens_of};
 ghost use Rattle.document_defs.specs.DocumentAnswers.{answer_of};
 ghost use Rattle.document.specs.AskRefusals.{HasAskCause};
+ghost use Rattle.document.specs.Settings.{settings_by};
 
-use answer_defs::{Answer, MOST_LINES_OF_A_QUESTION, MOST_TAB, Question, QuestionRefusal};
-use bracket_lex::{Brackets, MarkLines, Paired, Row};
+use crate::answers::{answer_of_rows, line_chars, typed_tokens};
+use crate::lines::{Over, mark_lines, run_line};
+use crate::refusals::question_refusal;
+use answer_defs::{Answer, MOST_TAB, Question, QuestionRefusal, TypedTokens};
+use bracket_lex::{Brackets, Paired};
+use line_runs::LineRuns;
 use line_text::{Edit, EditRefusal, Edited, Text};
-use pair_queries::{around, brackets, guides, jump, level_at, match_at, pairs};
+use onig_match::Work;
 use std::alloc::{AllocError, Global};
-use std::marker::Model;
-use text_pos::{Chars, Limits, Pos};
+use std::marker::{Brand, Model};
+use std::sync::ledger::{Blank, Ledger};
+use step_count::Steps;
+use text_pos::Limits;
 use thiserror::Error;
 
-/// An open text, with its brackets and limits.
+/// An open text, with what gives the tokens of its lines, its brackets and its limits.
 #[derive(Drop)]
-pub struct Document {
+pub struct Document<R: LineRuns> {
     text: Text,
+    machine: R,
+    work: Work,
     brackets: Brackets,
     limits: Limits,
 }
 
-impl Model for Document {
+impl<R: LineRuns> Model for Document<R> {
     ghost use Rattle.document.specs.State.{State};
 
-    ghost Value = { State };
+    ghost Value = { State R };
 
-    ghost view = { λ d. record { text = d.text; settings = record { texts = d.brackets; limits = d.limits } } };
+    ghost view = { λ d. record { text = d.text; machine = d.machine; texts = d.brackets; limits = d.limits } };
 
-    ghost use Rattle.std.specs.Prelude.{◌≤◌};
+    ghost use Rattle.std.specs.Prelude.{◌≡◌, ◌≤◌};
     ghost use Rattle.answer_defs.specs.declared.answer.TheConstants.{MOST_TAB};
 
-    ghost invariant = { λ d. (1 ≤ d.limits.tab) × (d.limits.tab ≤ MOST_TAB) };
+    ghost invariant = { λ d. (1 ≤ d.limits.tab) × (d.limits.tab ≤ MOST_TAB)
+        × (d.work.budget ≡ (R.told d.machine).limits.budget) × (d.work.room ≡ (R.told d.machine).groups) };
 }
 
 /// Why a question has no answer.
@@ -50,30 +61,42 @@ pub enum AskRefusal {
     Memory(AllocError),
 }
 
-impl Document {
+impl<R: LineRuns + Drop> Document<R> {
     /// Opens a text.
-    pub fn begin(text: Text, brackets: Brackets, limits: Limits) -> Result<Document, AllocError>
+    pub fn begin(
+        alloc: Global,
+        text: Text,
+        machine: R,
+        brackets: Brackets,
+        limits: Limits,
+    ) -> Result<Document<R>, AllocError>
         requires some { 1 ≤ limits.tab }
         requires few { limits.tab ≤ MOST_TAB }
         ensures text { IfOk result (λ d. d.text ≡ text) }
-        ensures texts { IfOk result (λ d. d.settings.texts ≡ brackets) }
-        ensures limits { IfOk result (λ d. d.settings.limits ≡ limits) }
+        ensures machine { IfOk result (λ d. d.machine ≡ machine) }
+        ensures texts { IfOk result (λ d. d.texts ≡ brackets) }
+        ensures limits { IfOk result (λ d. d.limits ≡ limits) }
     {
+        let work = Work::new(alloc, machine.limits().budget, machine.groups())?;
         Ok(Document {
             text,
+            machine,
+            work,
             brackets,
             limits,
         })
     }
 
-    /// Replaces the text by what a batch of edits makes of it, and answers how many lines it has then.
-    /// Refused, it stays as it was.
+    /// Replaces the text by what a batch of edits makes of it, and answers how many lines it has then. Refused, it stays
+    /// as it was. No line is run.
     pub fn edit(&mut self, alloc: Global, edits: &[Edit]) -> Result<u32, EditRefusal>
         ensures text { OnOk result (self.new.text ≡ edited self.old.text edits.now) }
         ensures lines { IfOk result (λ lines. lines ≡ line_count (edited self.old.text edits.now)) }
         ensures accepted { OnOk result (batch_refusal self.old.text edits.now ≡ None) }
         ensures refused { IfErr result (HasCause (batch_refusal self.old.text edits.now)) }
-        ensures settings { self.new.settings ≡ self.old.settings }
+        ensures machine { self.new.machine ≡ self.old.machine }
+        ensures texts { self.new.texts ≡ self.old.texts }
+        ensures limits { self.new.limits ≡ self.old.limits }
         ensures unchanged { OnErr result (self.new ≡ self.old) }
     {
         let Edited { text, carry: _ } = self.text.edited(alloc, edits)?;
@@ -81,18 +104,24 @@ impl Document {
         Ok(self.text.lines())
     }
 
-    /// The answer to a question. The whole text is paired anew for it, but for a line's characters.
+    /// The answer to a question. The lines are run and the text is paired anew for it, as far as it takes that. What gives
+    /// the tokens tells the same afterwards; how many runs it has made may be more.
     pub fn ask(&mut self, alloc: Global, question: &Question) -> Result<Answer, AskRefusal>
-        ensures answer { IfOk result (λ a. a ≡ answer_of self.old.settings self.old.text question.now) }
+        ensures answer { IfOk result (λ a.
+            a ≡ answer_of (settings_by (R.told self.old.machine) self.old.texts self.old.limits) self.old.text question.now) }
         ensures answered { OnOk result (question_refusal self.old.text question.now ≡ None) }
         ensures refused { IfErr result (HasAskCause (question_refusal self.old.text question.now)) }
         ensures text { self.new.text ≡ self.old.text }
-        ensures settings { self.new.settings ≡ self.old.settings }
+        ensures told { R.told self.new.machine ≡ R.told self.old.machine }
+        ensures texts { self.new.texts ≡ self.old.texts }
+        ensures limits { self.new.limits ≡ self.old.limits }
     {
-        match self.refusal_of(question) {
+        match question_refusal(&self.text, question) {
             Some(QuestionRefusal::Line { lines }) => Err(AskRefusal::Line { lines }),
             Some(QuestionRefusal::Place { length }) => Err(AskRefusal::Place { length }),
-            None => self.answer(alloc, question).map_err(AskRefusal::Memory),
+            None => self
+                .answer::<Brand>(alloc, question, Blank::new(1))
+                .map_err(AskRefusal::Memory),
         }
     }
 
@@ -102,133 +131,89 @@ impl Document {
     {
         &self.text
     }
+
+    /// What gives the tokens of the lines.
+    pub fn machine(&self) -> &R
+        ensures { result.now ≡ self.now.machine }
+    {
+        &self.machine
+    }
 }
 
-impl Document {
-    /// Why a question has no answer, if it has none.
-    fn refusal_of(&self, question: &Question) -> Option<QuestionRefusal>
-        ensures { result ≡ question_refusal self.now.text question.now }
+impl<R: LineRuns + Drop> Document<R> {
+    /// The rows of the text.
+    fn paired<L: Ledger>(
+        &mut self,
+        alloc: Global,
+        steps: &mut Steps<L>,
+    ) -> Result<Paired, AllocError>
+        ensures rows { IfOk result (λ rows.
+            rows ≡ rows_of (settings_by (R.told self.old.machine) self.old.texts self.old.limits) self.old.text) }
+        ensures text { self.new.text ≡ self.old.text }
+        ensures told { R.told self.new.machine ≡ R.told self.old.machine }
+        ensures texts { self.new.texts ≡ self.old.texts }
+        ensures limits { self.new.limits ≡ self.old.limits }
     {
+        let over = Over {
+            alloc,
+            text: &self.text,
+            brackets: &self.brackets,
+            limits: self.limits,
+        };
+        let marks = mark_lines(&over, &mut self.machine, &mut self.work, steps)?;
+        Paired::of(alloc, &marks, marks.end(), self.limits.nesting)
+    }
+
+    /// The tokens of line n.
+    fn tokens<L: Ledger>(
+        &mut self,
+        alloc: Global,
+        n: u32,
+        steps: &mut Steps<L>,
+    ) -> Result<TypedTokens, AllocError>
+        requires { n < line_count self.old.text }
+        ensures tokens { IfOk result (λ typed. typed ≡ tokens_in (slice_index_or
+            (tokens_of (settings_by (R.told self.old.machine) self.old.texts self.old.limits) self.old.text) n [])) }
+        ensures text { self.new.text ≡ self.old.text }
+        ensures told { R.told self.new.machine ≡ R.told self.old.machine }
+        ensures texts { self.new.texts ≡ self.old.texts }
+        ensures limits { self.new.limits ≡ self.old.limits }
+    {
+        let over = Over {
+            alloc,
+            text: &self.text,
+            brackets: &self.brackets,
+            limits: self.limits,
+        };
+        let run = run_line(&over, n, &mut self.machine, &mut self.work, steps)?;
+        typed_tokens(alloc, run.tokens().as_slice())
+    }
+
+    fn answer<L: Ledger>(
+        &mut self,
+        alloc: Global,
+        question: &Question,
+        blank: Blank,
+    ) -> Result<Answer, AllocError>
+        requires answered { question_refusal self.old.text question.now ≡ None }
+        requires name { blank.name ≡ L.name }
+        requires parts { blank.parts ≡ L.parts }
+        requires some { 0 < blank.parts }
+        ensures answer { IfOk result (λ a.
+            a ≡ answer_of (settings_by (R.told self.old.machine) self.old.texts self.old.limits) self.old.text question.now) }
+        ensures text { self.new.text ≡ self.old.text }
+        ensures told { R.told self.new.machine ≡ R.told self.old.machine }
+        ensures texts { self.new.texts ≡ self.old.texts }
+        ensures limits { self.new.limits ≡ self.old.limits }
+    {
+        let mut steps = Steps::<L>::begin(blank);
         match *question {
-            Question::Brackets { from, to }
-            | Question::Pairs { from, to }
-            | Question::Guides { from, to } => range_refusal(&self.text, from, to),
-            Question::Line { line } => line_refusal(&self.text, line),
-            Question::Match { at }
-            | Question::Around { at }
-            | Question::Jump { at }
-            | Question::Level { at } => place_refusal(&self.text, at),
+            Question::Line { line } => Ok(Answer::Line(line_chars(alloc, &self.text, line)?)),
+            Question::Tokens { line } => Ok(Answer::Tokens(self.tokens(alloc, line, &mut steps)?)),
+            _ => {
+                let rows = self.paired(alloc, &mut steps)?;
+                answer_of_rows(alloc, rows.rows(), &self.text, self.limits.tab, question)
+            }
         }
     }
-
-    fn answer(&self, alloc: Global, question: &Question) -> Result<Answer, AllocError>
-        requires { question_refusal self.now.text question.now ≡ None }
-        ensures { IfOk result (λ a. a ≡ answer_of self.now.settings self.now.text question.now) }
-    {
-        if let Question::Line { line } = *question {
-            let chars = self.text.line(line).chars();
-            return Ok(Answer::Line(Chars::of(alloc, chars)?));
-        }
-        let rows = pair_text(alloc, &self.text, &self.brackets, self.limits)?;
-        answer_among(alloc, rows.rows(), &self.text, self.limits.tab, question)
-    }
-}
-
-/// The answer to a question, of the rows of a text.
-fn answer_among(
-    alloc: Global,
-    rows: &[Row],
-    text: &Text,
-    tab: u32,
-    question: &Question,
-) -> Result<Answer, AllocError>
-    requires answered { question_refusal text.now question.now ≡ None }
-    requires few { length rows.now < 2 ^ 32 }
-    requires some_columns { 1 ≤ tab }
-    requires few_columns { tab ≤ MOST_TAB }
-    ensures { IfOk result (λ a. a ≡ answer_among tab rows.now text.now question.now) }
-{
-    match *question {
-        Question::Brackets { from, to } => Ok(Answer::Brackets(brackets(alloc, rows, from, to)?)),
-        Question::Pairs { from, to } => Ok(Answer::Pairs(pairs(alloc, rows, from, to)?)),
-        Question::Guides { from, to } => {
-            Ok(Answer::Guides(guides(alloc, rows, text, tab, from, to)?))
-        }
-        Question::Line { line } => {
-            let chars = text.line(line).chars();
-            Ok(Answer::Line(Chars::of(alloc, chars)?))
-        }
-        Question::Match { at } => Ok(Answer::Match(match_at(rows, at))),
-        Question::Around { at } => Ok(Answer::Around(around(rows, at))),
-        Question::Jump { at } => Ok(Answer::Jump(jump(rows, at))),
-        Question::Level { at } => Ok(Answer::Level(level_at(rows, at))),
-    }
-}
-
-/// Why a range of lines is refused.
-fn range_refusal(text: &Text, from: u32, to: u32) -> Option<QuestionRefusal>
-    ensures { result ≡ range_refusal text.now from to }
-{
-    let lines = text.lines();
-    if is_range(lines, from, to) {
-        None
-    } else {
-        Some(no_line(lines))
-    }
-}
-
-/// Why a line is refused.
-fn line_refusal(text: &Text, line: u32) -> Option<QuestionRefusal>
-    ensures { result ≡ line_refusal text.now line }
-{
-    let lines = text.lines();
-    if line < lines {
-        None
-    } else {
-        Some(no_line(lines))
-    }
-}
-
-fn no_line(lines: u32) -> QuestionRefusal
-    ensures { result ≡ QuestionRefusal.Line lines }
-{
-    QuestionRefusal::Line {
-        lines: u64::from(lines),
-    }
-}
-
-/// Why a place is refused: its line is tested first.
-fn place_refusal(text: &Text, at: Pos) -> Option<QuestionRefusal>
-    ensures { result ≡ place_refusal text.now at }
-{
-    if at.line >= text.lines() {
-        return line_refusal(text, at.line);
-    }
-    let length = text.line(at.line).chars().len() as u64;
-    if u64::from(at.col) <= length {
-        None
-    } else {
-        Some(QuestionRefusal::Place { length })
-    }
-}
-
-/// Whether these lines, of so many, may be asked for.
-fn is_range(lines: u32, from: u32, to: u32) -> bool
-    ensures { result ≡ is_range lines from to }
-{
-    from <= to && to < lines && to - from < MOST_LINES_OF_A_QUESTION
-}
-
-/// The rows of a whole text.
-fn pair_text(
-    alloc: Global,
-    text: &Text,
-    brackets: &Brackets,
-    limits: Limits,
-) -> Result<Paired, AllocError>
-    ensures { IfOk result (λ rows. rows ≡ rows_of (settings_of brackets.now limits) text.now) }
-{
-    let marks = MarkLines::of_text(alloc, brackets, text, limits.long)?;
-    let rows = Paired::of(alloc, &marks, marks.end(), limits.nesting)?;
-    Ok(rows)
 }

@@ -1,4 +1,5 @@
-//! Tests of `line_machine`: the lines of small texts by tables of rules that are made of rows, with ample memory.
+//! Tests of `line_machine`: the lines of small texts by tables of rules that are made of rows, with ample memory. Tests of
+//! crates above make their tables of such rows too.
 #![tactic(auto)]
 
 #[cfg(test)]
@@ -6,6 +7,8 @@ mod grammars;
 #[cfg(test)]
 mod limits;
 mod lines;
-mod rows;
+pub mod rows;
 #[cfg(test)]
 mod tests;
+#[cfg(test)]
+mod worked;

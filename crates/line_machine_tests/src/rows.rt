@@ -15,11 +15,11 @@ use std::rc::Rc;
 use text_pos::Name;
 
 /// The most groups of a pattern of these tests.
-pub(crate) const GROUPS: u32 = 9;
+pub const GROUPS: u32 = 9;
 
 /// What is done with a group's capture.
 #[derive(Clone, Copy)]
-pub(crate) struct Entry<'a> {
+pub struct Entry<'a> {
     pub number: u32,
     pub name: &'a str,
     pub inner: Option<u32>,
@@ -27,7 +27,7 @@ pub(crate) struct Entry<'a> {
 
 /// A rule, as a row of a table of a test. An empty text is none.
 #[derive(Clone, Copy)]
-pub(crate) struct Row<'a> {
+pub struct Row<'a> {
     pub kind: RuleKind,
     pub name: &'a str,
     pub content: &'a str,
@@ -150,7 +150,7 @@ fn rule(
 }
 
 /// The table of some rows, of which there are 1 to 1,000.
-pub(crate) fn table(alloc: Global, rows: &[Row<'_>]) -> Result<RuleTable, AllocError>
+pub fn table(alloc: Global, rows: &[Row<'_>]) -> Result<RuleTable, AllocError>
     ensures { IfOk result (λ table. table.groups ≡ GROUPS) }
 {
     if rows.is_empty() || rows.len() > 1000 {
@@ -166,7 +166,7 @@ pub(crate) fn table(alloc: Global, rows: &[Row<'_>]) -> Result<RuleTable, AllocE
 }
 
 /// Whether the top is no begin/end rule.
-pub(crate) fn has_root(table: &RuleTable) -> bool
+pub fn has_root(table: &RuleTable) -> bool
     ensures { IsTrue result → kind_at table.now 0 ≢ BeginEnd }
 {
     let _count = table.len();
@@ -176,7 +176,7 @@ pub(crate) fn has_root(table: &RuleTable) -> bool
     }
 }
 
-pub(crate) fn capture<'a>(number: u32, name: &'a str) -> Entry<'a> {
+pub fn capture<'a>(number: u32, name: &'a str) -> Entry<'a> {
     Entry {
         number,
         name,
@@ -185,7 +185,7 @@ pub(crate) fn capture<'a>(number: u32, name: &'a str) -> Entry<'a> {
 }
 
 /// A capture with the patterns of a rule.
-pub(crate) fn inside<'a>(number: u32, name: &'a str, rule: u32) -> Entry<'a> {
+pub fn inside<'a>(number: u32, name: &'a str, rule: u32) -> Entry<'a> {
     Entry {
         number,
         name,
@@ -193,7 +193,7 @@ pub(crate) fn inside<'a>(number: u32, name: &'a str, rule: u32) -> Entry<'a> {
     }
 }
 
-pub(crate) fn group<'a>(active: &'a [u32]) -> Row<'a> {
+pub fn group<'a>(active: &'a [u32]) -> Row<'a> {
     Row {
         kind: RuleKind::Group,
         name: "",
@@ -207,7 +207,7 @@ pub(crate) fn group<'a>(active: &'a [u32]) -> Row<'a> {
     }
 }
 
-pub(crate) fn single<'a>(
+pub fn single<'a>(
     name: &'a str,
     start: &'a str,
     start_captures: &'a [Entry<'a>],
@@ -221,7 +221,7 @@ pub(crate) fn single<'a>(
     }
 }
 
-pub(crate) fn block<'a>(
+pub fn block<'a>(
     name: &'a str,
     start: &'a str,
     finish: &'a str,
@@ -236,7 +236,7 @@ pub(crate) fn block<'a>(
     }
 }
 
-pub(crate) fn lasting<'a>(
+pub fn lasting<'a>(
     name: &'a str,
     start: &'a str,
     finish: &'a str,
@@ -248,24 +248,24 @@ pub(crate) fn lasting<'a>(
     }
 }
 
-pub(crate) fn with_content<'a>(content: &'a str, row: Row<'a>) -> Row<'a> {
+pub fn with_content<'a>(content: &'a str, row: Row<'a>) -> Row<'a> {
     Row { content, ..row }
 }
 
-pub(crate) fn with_starts<'a>(start_captures: &'a [Entry<'a>], row: Row<'a>) -> Row<'a> {
+pub fn with_starts<'a>(start_captures: &'a [Entry<'a>], row: Row<'a>) -> Row<'a> {
     Row {
         start_captures,
         ..row
     }
 }
 
-pub(crate) fn with_ends<'a>(finish_captures: &'a [Entry<'a>], row: Row<'a>) -> Row<'a> {
+pub fn with_ends<'a>(finish_captures: &'a [Entry<'a>], row: Row<'a>) -> Row<'a> {
     Row {
         finish_captures,
         ..row
     }
 }
 
-pub(crate) fn end_last<'a>(row: Row<'a>) -> Row<'a> {
+pub fn end_last<'a>(row: Row<'a>) -> Row<'a> {
     Row { last: true, ..row }
 }
