@@ -5,6 +5,8 @@
 #[cfg(test)]
 mod grammars;
 #[cfg(test)]
+mod injections;
+#[cfg(test)]
 mod limits;
 mod lines;
 pub mod rows;

@@ -74,6 +74,23 @@ fn rows(alloc: Global, file: &str, text: &str, budget: u32) -> Result<String, Fa
     Ok(rows)
 }
 
+/// What the lines of a text give by a grammar's file, in short.
+pub(crate) fn short(alloc: Global, file: &str, text: &str, budget: u32) -> Result<String, Fail> {
+    let mut machine = machine(alloc, file, budget)?;
+    let mut work = Work::new(alloc, budget, machine.groups())?;
+    let Ok(text) = Text::from_bytes(alloc, text.as_bytes()) else {
+        return Err(Fail::new("the text is none"));
+    };
+    Ok(counted::<Brand>(
+        alloc,
+        Form::Short,
+        &mut machine,
+        &mut work,
+        &text,
+        Blank::new(1),
+    )?)
+}
+
 /// That a line of such rows is this one.
 fn has(rows: &String, number: usize, row: &str) -> bool {
     rows.as_str()
