@@ -1,5 +1,6 @@
 -- The files that the words name: which of them is reached, and what is told of them.
 use Rattle.std.proofs.Common.{◌≡◌, ◌⊎◌, ℕ, ◌<◌, ◌≤◌, List, [], ◌∷◌, ◌++◌, refl, sym, ap, subst, ◌∙◌, arith, true, false}
+use Rattle.std.proofs.Common.{inl, inr}
 use Rattle.std.specs.Prelude.{Option, Some, None}
 use Rattle.piece_io.specs.Told.{Told, Untold, Missing, Holds, risen}
 use Rattle.session_defs.specs.declared.file_kind.FileKind.{FileKind}
@@ -38,19 +39,19 @@ reads_told told file bytes e o = subst (λ t. Reads t bytes) e o
 
 some_each : {P Q : NamedFile → Type 0} (files : List NamedFile) → ((f : NamedFile) → P f → Q f → ⊥) → Some_ P files
     → Each Q files → ⊥
-some_each [] no s e = absurd s
-some_each (f ∷ files) no (inl s) e = no f s e.0
-some_each (f ∷ files) no (inr s) e = some_each files no s e.1
+some_each [] never s e = absurd s
+some_each (f ∷ files) never (inl s) e = never f s e.0
+some_each (f ∷ files) never (inr s) e = some_each files never s e.1
 
-each_append : {P : NamedFile → Type 0} (xs ys : List NamedFile) → Each P xs → Each P ys → Each P (xs ++ ys)
-each_append [] ys a b = b
-each_append (f ∷ xs) ys a b = (a.0, each_append xs ys a.1 b)
+each_append : (P : NamedFile → Type 0) (xs ys : List NamedFile) → Each P xs → Each P ys → Each P (xs ++ ys)
+each_append P [] ys a b = b
+each_append P (f ∷ xs) ys a b = (a.0, each_append P xs ys a.1 b)
 
 reaches_each : {P Q : NamedFile → Type 0} (contents : List ℕ → Told) (files : List NamedFile)
     → ((f : NamedFile) → P f → Q f → ⊥) → Reaches contents P files → Each Q files → ⊥
-reaches_each contents [] no r e = absurd r
-reaches_each contents (f ∷ files) no (inl r) e = no f r e.0
-reaches_each contents (f ∷ files) no (inr r) e = reaches_each contents files no r.1 e.1
+reaches_each contents [] never r e = absurd r
+reaches_each contents (f ∷ files) never (inl r) e = never f r e.0
+reaches_each contents (f ∷ files) never (inr r) e = reaches_each contents files never r.1 e.1
 
 -- no count of a file rose where all stand as they were
 pub same_counts : (faults faults' : List ℕ → ℕ) (files : List NamedFile) → SameCounts faults faults'
@@ -71,7 +72,7 @@ module _ (contents : List ℕ → Told) where
 
   pub each_opened : (r : Request) (inputs : Inputs) → OpensAll contents r inputs → Each IsOpened (files_of r)
   each_opened r inputs o =
-      ((inputs.text, o.text), each_append (named_if kind.Grammar r.grammar) (named_if kind.Brackets r.brackets)
+      ((inputs.text, o.text), each_append IsOpened (named_if kind.Grammar r.grammar) (named_if kind.Brackets r.brackets)
       (each_named kind.Grammar r.grammar inputs.grammar o.grammar)
       (each_named kind.Brackets r.brackets inputs.brackets o.brackets))
 

@@ -1,22 +1,24 @@
 -- How the files that the words name are opened, one after the other.
-use Rattle.std.proofs.Common.{◌≡◌, ℕ, ◌≤◌, List, [], ◌∷◌, ◌++◌, length, refl, sym, ap, subst, ◌∙◌, arith, rules, Bool, true, false}
-use Rattle.std.proofs.Common.{◌&&◌}
-use Rattle.std.specs.Prelude.{Option, Some, None, nat_le, option_and_then}
+use Rattle.std.proofs.Common.{◌≡◌, ℕ, ◌≤◌, List, [], ◌∷◌, ◌++◌, length, refl, sym, ap, subst, ◌∙◌, arith, Bool, true}
+use Rattle.std.proofs.Common.{false, ◌&&◌, inl, inr}
+use Rattle.std.specs.Prelude.{Option, Some, None, nat_le, option_and_then, is_some, unwrap_or, Result, Ok, Err, IfOk, IfErr, OnOk}
 use Rattle.std.proofs.lemmas.Bool.Decides.{nat_tests}
 use Rattle.text_pos.specs.declared.limits.Limits.{Limits}
+use Rattle.text_defs.specs.Text.{text_of}
 use Rattle.pairing_defs.specs.declared.BracketText.{BracketText}
+use Rattle.pairing_defs.specs.Marks.{usual_texts}
 use Rattle.piece_io.specs.Told.{Told, Untold, Missing, Holds, risen}
-use Rattle.line_machine.specs.Machines.{told}
+use Rattle.line_machine.specs.Machines.{MachineState, told}
 use Rattle.document.specs.State.{State}
 use Rattle.document.specs.Settings.{settings_by}
 use Rattle.session_defs.specs.declared.file_kind.FileKind.{FileKind}
 use Rattle.session_defs.specs.declared.file_kind.FileKind.TheVariants as kind
 use Rattle.session_defs.specs.Words.{Request}
-use Rattle.session_defs.specs.Opening.{NamedFile, OpenGrammar, named_if, files_of, is_accepted, is_of_kind, most_file_bytes}
-use Rattle.session_defs.specs.Opening.{settings_for, unread_of}
+use Rattle.session_defs.specs.Opening.{NamedFile, OpenGrammar, Session, named_if, files_of, is_accepted, is_of_kind}
+use Rattle.session_defs.specs.Opening.{most_file_bytes, grammar_of_file, brackets_of_file, texts_of, session_by}
 use Rattle.bracket_program.specs.Run.{Reads, Opens, OpensIf, Refuses, SameCounts, IsFileEnd, Reaches, Each, refusal_of}
 use Rattle.bracket_program.specs.Texts.{ReadsFile, IsKindEnd}
-use Rattle.bracket_program.specs.Opens.{file, IsNamedEnd, IsOpenEnd}
+use Rattle.bracket_program.specs.Opens.{file, IsNamedEnd, IsOpenEnd, OpensText, OpensMachine, OpensBrackets, OpensDocument}
 use Rattle.bracket_program.specs.Sessions.{machine_for}
 use Rattle.bracket_program.specs.declared.status.Status.{Status}
 use Rattle.bracket_program.specs.declared.status.Status.TheVariants as status
@@ -212,10 +214,10 @@ module _ (contents : List ℕ → Told) (faults faults' : List ℕ → ℕ) (r :
       → IsNamedEnd contents faults faults' kind.Grammar r.grammar s → IsOpenEnd contents faults faults' r s
   machine_end o s h = machine_end_by o r.grammar refl s h
 
-  reaches_behind : {P : NamedFile → Type 0} (xs ys : List NamedFile) → Each (IsOpened contents) xs
+  reaches_behind : (P : NamedFile → Type 0) (xs ys : List NamedFile) → Each (IsOpened contents) xs
       → Reaches contents P ys → Reaches contents P (xs ++ ys)
-  reaches_behind [] ys e h = h
-  reaches_behind (f ∷ xs) ys e h = inr (e.0, reaches_behind xs ys e.1 h)
+  reaches_behind P [] ys e h = h
+  reaches_behind P (f ∷ xs) ys e h = inr (e.0, reaches_behind P xs ys e.1 h)
 
   brackets_end_by : IsOpened contents (file kind.Text r.text) → (bytes : Option (List ℕ))
       → OpensIf contents kind.Grammar r.grammar bytes → (name : Option (List ℕ)) → r.brackets ≡ name
@@ -223,7 +225,7 @@ module _ (contents : List ℕ → Told) (faults faults' : List ℕ → ℕ) (r :
   brackets_end_by o bytes g None e s h = none_end kind.Brackets s h
   brackets_end_by o bytes g (Some name) e s h =
       file_end (file kind.Brackets name)
-      (λ P p. inr (o, reaches_behind (named_if kind.Grammar r.grammar) (named_if kind.Brackets r.brackets)
+      (λ P p. inr (o, reaches_behind P (named_if kind.Grammar r.grammar) (named_if kind.Brackets r.brackets)
       (each_named contents kind.Grammar r.grammar bytes g)
       (subst (λ b. Reaches contents P (named_if kind.Brackets b)) (sym e) (inl p)))) s h
 
@@ -232,14 +234,75 @@ module _ (contents : List ℕ → Told) (faults faults' : List ℕ → ℕ) (r :
       → IsNamedEnd contents faults faults' kind.Brackets r.brackets s → IsOpenEnd contents faults faults' r s
   brackets_end o bytes g s h = brackets_end_by o bytes g r.brackets refl s h
 
--- ---- what a document of the program answers by
+-- ---- what is open
 
-pub settings_same : (limits : Limits) (g : Option OpenGrammar) (texts : List BracketText)
-    → settings_by (told (machine_for limits g)) texts limits ≡ settings_for limits g texts
-settings_same limits None texts = refl
-settings_same limits (Some g) texts = refl
+pub ok_map : {T E : Type 0} (r : Result T E) {P Q : T → Type 0} → ((x : T) → P x → Q x) → IfOk r P → IfOk r Q
+ok_map (Ok x) f p = f x p
+ok_map (Err e) f p = tt
 
-pub unread_same : (limits : Limits) (g : Option OpenGrammar)
-    → (machine_for limits g).unread ≡ unread_of g
-unread_same limits None = refl
-unread_same limits (Some g) = refl
+pub err_map : {T E : Type 0} (r : Result T E) {P Q : E → Type 0} → ((e : E) → P e → Q e) → IfErr r P → IfErr r Q
+err_map (Ok x) f p = tt
+err_map (Err e) f p = f e p
+
+opened_machine : (contents : List ℕ → Told) (name bytes : List ℕ) (limits : Limits)
+    → ReadsFile (contents name) bytes → is_of_kind kind.Grammar bytes ≡ true → (m : MachineState)
+    → m ≡ machine_for limits (grammar_of_file bytes) → OpensMachine contents (Some name) limits m
+opened_machine contents name bytes limits r a m e =
+    record { bytes = Some bytes; opens = opens_by (contents name) kind.Grammar bytes r a; is = e }
+
+pub opened_if : {E : Type 0} (result : Result MachineState E) (contents : List ℕ → Told) (name bytes : List ℕ)
+    (limits : Limits) → ReadsFile (contents name) bytes
+    → IfOk result (λ m. m ≡ machine_for limits (grammar_of_file bytes))
+    → OnOk result (is_of_kind kind.Grammar bytes ≡ true) → IfOk result (OpensMachine contents (Some name) limits)
+opened_if (Ok m) contents name bytes limits r e a = opened_machine contents name bytes limits r a m e
+opened_if (Err s) contents name bytes limits r e a = tt
+
+pub opened_brackets : (contents : List ℕ → Told) (name bytes : List ℕ) → ReadsFile (contents name) bytes
+    → (texts : List BracketText) → Some texts ≡ brackets_of_file bytes → OpensBrackets contents (Some name) texts
+opened_brackets contents name bytes r texts e = record {
+  bytes = Some bytes;
+  opens = opens_by (contents name) kind.Brackets bytes r (sym (ap is_some e));
+  is = ap (λ o. unwrap_or o usual_texts) e;
+}
+
+abbrev session_made : MachineState → List BracketText → Limits → List ℕ → Session
+session_made m texts limits text =
+    record { settings = settings_by (told m) texts limits; unread = m.unread; text = text }
+
+made_by : (limits : Limits) (g : Option OpenGrammar) (texts : List BracketText) (text : List ℕ)
+    → session_made (machine_for limits g) texts limits text ≡ session_by limits g texts text
+made_by limits None texts text = refl
+made_by limits (Some g) texts text = refl
+
+-- a text, a machine and brackets, one opened after the other
+pub document_opens : (contents contents' contents'' : List ℕ → Told) → ((q : List ℕ) → contents' q ≡ contents q)
+    → ((q : List ℕ) → contents'' q ≡ contents q) → (r : Request) (text : List ℕ) (m : MachineState)
+    (texts : List BracketText) → OpensText contents r.text text → OpensMachine contents' r.grammar r.limits m
+    → OpensBrackets contents'' r.brackets texts → (d : State MachineState) → d.text ≡ text → d.machine ≡ m
+    → d.texts ≡ texts → d.limits ≡ r.limits → OpensDocument contents r d
+document_opens contents contents' contents'' same same' r text m texts t o b d et em es el = record {
+  inputs = record { text = t.bytes; grammar = o.bytes; brackets = b.bytes };
+  opens = record {
+    text = t.opens;
+    grammar = opens_if_same contents contents' same kind.Grammar r.grammar o.bytes o.opens;
+    brackets = opens_if_same contents contents'' same' kind.Brackets r.brackets b.bytes b.opens;
+  };
+  is = ap (λ n. session_made n d.texts d.limits d.text) (em ∙ o.is)
+      ∙ (ap (λ ts. session_made (machine_for r.limits (option_and_then grammar_of_file o.bytes)) ts d.limits d.text)
+      (es ∙ b.is)
+      ∙ (ap (λ l. session_made (machine_for r.limits (option_and_then grammar_of_file o.bytes)) (texts_of b.bytes) l d.text) el
+      ∙ (ap (session_made (machine_for r.limits (option_and_then grammar_of_file o.bytes)) (texts_of b.bytes) r.limits)
+      (et ∙ t.is)
+      ∙ made_by r.limits (option_and_then grammar_of_file o.bytes) (texts_of b.bytes) (text_of t.bytes))));
+}
+
+-- brackets that aren't opened, behind a text and a machine that are
+pub brackets_unopened : (contents contents' contents'' : List ℕ → Told) → ((q : List ℕ) → contents' q ≡ contents q)
+    → ((q : List ℕ) → contents'' q ≡ contents q) → (faults faults' faults'' : List ℕ → ℕ)
+    → SameCounts faults faults' → (r : Request) (text : List ℕ) (m : MachineState) → OpensText contents r.text text
+    → OpensMachine contents' r.grammar r.limits m → (s : Status)
+    → IsNamedEnd contents'' faults' faults'' kind.Brackets r.brackets s → IsOpenEnd contents faults faults'' r s
+brackets_unopened contents contents' contents'' same same' faults faults' faults'' stand r text m t o s e =
+    brackets_end contents faults faults'' r (t.bytes, t.opens) o.bytes
+    (opens_if_same contents contents' same kind.Grammar r.grammar o.bytes o.opens) s
+    (named_end_same contents contents'' same' faults faults' faults'' stand kind.Brackets r.brackets s e)

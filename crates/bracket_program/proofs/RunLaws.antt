@@ -1,6 +1,6 @@
 -- What each clause about a run says, from what is told of its status.
 use Rattle.std.proofs.Common.{◌≡◌, ◌⊎◌, ◌↔◌, ℕ, ◌<◌, ◌≤◌, List, [], ◌++◌, length, refl, sym, ap, subst, ◌∙◌, arith}
-use Rattle.std.proofs.Common.{length-append, append-nil}
+use Rattle.std.proofs.Common.{length-append, append-nil, inl, inr}
 use Rattle.std.specs.Prelude.{Option, Some, None, IfSome, ⊤}
 use Rattle.piece_io.specs.Told.{Told, appended, risen}
 use Rattle.session_defs.specs.declared.file_kind.FileKind.{FileKind}
@@ -228,9 +228,9 @@ module _ (contents : List ℕ → Told) (faults faults' : List ℕ → ℕ) (bef
   run-script_rise (Some r) status.TextFile run h = absurd (same_reads run.2 h)
   run-script_rise (Some r) status.GrammarFile run h = absurd (same_reads run.2 h)
   run-script_rise (Some r) status.BracketFile run h = absurd (same_reads run.2 h)
-  run-script_rise (Some r) status.Done run h = omega (arith, h, run.1.ends.reads_stand)
-  run-script_rise (Some r) status.WriteFault run h = omega (arith, h, run.1.ends.2)
-  run-script_rise (Some r) status.ScriptFull run h = omega (arith, h, run.1.ends.2)
+  run-script_rise (Some r) status.Done run h = absurd (omega (arith, h, run.1.ends.reads_stand))
+  run-script_rise (Some r) status.WriteFault run h = absurd (omega (arith, h, run.1.ends.2))
+  run-script_rise (Some r) status.ScriptFull run h = absurd (omega (arith, h, run.1.ends.2))
   run-script_rise (Some r) status.Memory run h = absurd (memory_reads r run.1 h)
 
   pub run-sink_rise : (w : Option Request) (s : Status) → Runs w s → before.writes < after.writes
@@ -249,9 +249,9 @@ module _ (contents : List ℕ → Told) (faults faults' : List ℕ → ℕ) (bef
   run-sink_rise (Some r) status.TextFile run h = absurd (same_writes run.2 h)
   run-sink_rise (Some r) status.GrammarFile run h = absurd (same_writes run.2 h)
   run-sink_rise (Some r) status.BracketFile run h = absurd (same_writes run.2 h)
-  run-sink_rise (Some r) status.Done run h = omega (arith, h, run.1.ends.writes_stand)
+  run-sink_rise (Some r) status.Done run h = absurd (omega (arith, h, run.1.ends.writes_stand))
   run-sink_rise (Some r) status.ReadFault run h = absurd (fault_writes r run h)
-  run-sink_rise (Some r) status.ScriptFull run h = omega (arith, h, run.1.ends.0.writes_stand)
+  run-sink_rise (Some r) status.ScriptFull run h = absurd (omega (arith, h, run.1.ends.0.writes_stand))
   run-sink_rise (Some r) status.Memory run h = absurd (memory_writes r run.1 h)
 
   -- ---- a file that can't be opened

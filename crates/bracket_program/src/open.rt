@@ -60,9 +60,9 @@ fn open_machine<F: Files>(
     name: Option<&str>,
     limits: Limits,
 ) -> Result<Machine, Status>
-    ensures opens { IfOk result (OpensMachine (F.contents files.old) (option_map (λ n. n.now) name) limits) }
+    ensures opens { IfOk result (OpensMachine (F.contents files.old) (option_map (λ n. n.now) name.entry) limits) }
     ensures counts { OnOk result (SameCounts (F.faults files.old) (F.faults files.new)) }
-    ensures ends { IfErr result (IsNamedEnd (F.contents files.old) (F.faults files.old) (F.faults files.new) kind.Grammar (option_map (λ n. n.now) name)) }
+    ensures ends { IfErr result (IsNamedEnd (F.contents files.old) (F.faults files.old) (F.faults files.new) kind.Grammar (option_map (λ n. n.now) name.entry)) }
     ensures contents { (q : List ℕ) → F.contents files.new q ≡ F.contents files.old q }
 {
     match name {
@@ -80,9 +80,9 @@ fn open_brackets<F: Files>(
     files: &mut F,
     name: Option<&str>,
 ) -> Result<Brackets, Status>
-    ensures opens { IfOk result (OpensBrackets (F.contents files.old) (option_map (λ n. n.now) name)) }
+    ensures opens { IfOk result (OpensBrackets (F.contents files.old) (option_map (λ n. n.now) name.entry)) }
     ensures counts { OnOk result (SameCounts (F.faults files.old) (F.faults files.new)) }
-    ensures ends { IfErr result (IsNamedEnd (F.contents files.old) (F.faults files.old) (F.faults files.new) kind.Brackets (option_map (λ n. n.now) name)) }
+    ensures ends { IfErr result (IsNamedEnd (F.contents files.old) (F.faults files.old) (F.faults files.new) kind.Brackets (option_map (λ n. n.now) name.entry)) }
     ensures contents { (q : List ℕ) → F.contents files.new q ≡ F.contents files.old q }
 {
     match name {

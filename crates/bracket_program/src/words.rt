@@ -96,7 +96,7 @@ fn no_options<'a>() -> Options<'a>
 
 /// The options with one more, which has no value yet.
 fn with_option<'a>(given: Options<'a>, option: &str, value: &'a str) -> Option<Options<'a>>
-    ensures { result ≡ with_option given option.now value.now }
+    ensures { result ≡ with_option given.entry option.now value.now }
 {
     let mut options = given;
     if option == "--grammar" {
@@ -119,7 +119,7 @@ fn with_option<'a>(given: Options<'a>, option: &str, value: &'a str) -> Option<O
 
 /// A value for an option that has none yet.
 fn once<'a>(earlier: Option<&'a str>, value: &'a str) -> Option<Option<&'a str>>
-    ensures { option_map (λ values. option_map (λ v. v.now) values) result ≡ once (option_map (λ v. v.now) earlier) value.now }
+    ensures { option_map (λ values. option_map (λ v. v.now) values) result ≡ once (option_map (λ v. v.now) earlier.entry) value.now }
 {
     match earlier {
         None => Some(Some(value)),
@@ -129,7 +129,7 @@ fn once<'a>(earlier: Option<&'a str>, value: &'a str) -> Option<Option<&'a str>>
 
 /// What a name and options ask for.
 fn request_with<'a>(name: &'a str, given: Options<'a>) -> Option<Request<'a>>
-    ensures { result ≡ request_with name.now given }
+    ensures { result ≡ request_with name.now given.entry }
 {
     if !is_plain(name) || !is_name_or_none(given.grammar) || !is_name_or_none(given.brackets) {
         return None;
@@ -143,7 +143,7 @@ fn request_with<'a>(name: &'a str, given: Options<'a>) -> Option<Request<'a>>
 }
 
 fn limits_in(given: Options<'_>) -> Option<Limits>
-    ensures { result ≡ limits_in given }
+    ensures { result ≡ limits_in given.entry }
 {
     let nesting = number_or(USUAL_NESTING, LEAST_NESTING, MOST_NESTING, given.nesting)?;
     let budget = number_or(USUAL_BUDGET, LEAST_BUDGET, MOST_BUDGET, given.steps)?;
@@ -166,7 +166,7 @@ fn is_plain(word: &str) -> bool
 
 /// A file that isn't named, or one that has a name.
 fn is_name_or_none(word: Option<&str>) -> bool
-    ensures { result ≡ is_name_or_none (option_map (λ w. w.now) word) }
+    ensures { result ≡ is_name_or_none (option_map (λ w. w.now) word.entry) }
 {
     match word {
         None => true,
@@ -176,7 +176,7 @@ fn is_name_or_none(word: Option<&str>) -> bool
 
 /// A number from `least` to `most`, or the usual one where there is no word.
 fn number_or(usual: u32, least: u32, most: u32, word: Option<&str>) -> Option<u32>
-    ensures { result ≡ number_or usual least most (option_map (λ w. w.now) word) }
+    ensures { result ≡ number_or usual least most (option_map (λ w. w.now) word.entry) }
 {
     match word {
         None => Some(usual),

@@ -1,14 +1,13 @@
 -- The results of lines, each from where the line before it ended.
-use Rattle.std.proofs.Common.{◌≡◌, ℕ, ◌+◌, ◌<◌, List, [], ◌∷◌, ◌++◌, length, map, take, drop, get_or, slice_index_or}
-use Rattle.std.proofs.Common.{refl, ap, sym, subst, ◌∙◌, add-one, append_assoc, arith}
+use Rattle.std.proofs.Common.{◌≡◌, ℕ, ◌+◌, ◌<◌, List, [], ◌∷◌, length, map, drop, get_or, slice_index_or}
+use Rattle.std.proofs.Common.{refl, ap, sym, subst, ◌∙◌, add-one, arith}
 use Rattle.std.proofs.lemmas.List.{drop-drop, get_or-drop, drop-map}
-use Rattle.text_defs.specs.Text.{lines_of, line_in}
+use Rattle.text_defs.specs.Text.{line_in}
 use Rattle.line_text.proofs.Places.{drop_line}
-use Rattle.scope_defs.specs.Frames.{Frame, Stack, Start, Token, forgotten, forgotten_all, bare}
+use Rattle.scope_defs.specs.Frames.{Frame, Start, Token, forgotten, bare}
 use Rattle.line_defs.specs.Line.{LineResult}
 use Rattle.line_runs.specs.Runs.{Runs, Fits, next_line, first_line, bare_result}
-use Rattle.pairing_defs.specs.declared.LineMark.{LineMark}
-use Rattle.document_defs.specs.TextRows.{Settings, results_from, marks_from, line_marks}
+use Rattle.document_defs.specs.TextRows.{Settings, results_from}
 
 -- ---- starts
 

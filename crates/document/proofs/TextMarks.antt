@@ -8,7 +8,7 @@ use Rattle.std.proofs.Math.Seq.{take-suc}
 use Rattle.text_defs.specs.Text.{lines_of, line_in}
 use Rattle.scope_defs.specs.Frames.{Start}
 use Rattle.pairing_defs.specs.declared.LineMark.{LineMark}
-use Rattle.pairing_defs.specs.Marks.{counts_by, marks_of, marks_of_lines, on_line}
+use Rattle.pairing_defs.specs.Marks.{counts_by, marks_of_lines, on_line}
 use Rattle.bracket_marks.specs.MarkedLine.{MarkedLine}
 use Rattle.bracket_lex.proofs.MarkedTexts.{marks_few, chars_few, line_in-get_or}
 use Rattle.document.proofs.LineRuns.{at_line}

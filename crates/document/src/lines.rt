@@ -67,7 +67,10 @@ pub(crate) fn mark_lines<R: LineRuns, L: Ledger>(
         let line = over.text.line(n);
         let run = machine.tokenise(work, &start, line, steps)?;
         fill_types(&mut types, run.tokens().as_slice())?;
-        lines.push(over.brackets.marks(over.alloc, line, &types, over.limits.long)?)?;
+        lines.push(
+            over.brackets
+                .marks(over.alloc, line, &types, over.limits.long)?,
+        )?;
         start = run.end().copy()?;
     }
     Ok(lines)
@@ -92,8 +95,8 @@ pub(crate) fn run_line<R: LineRuns, L: Ledger>(
 {
     let mut start = machine.start().copy()?;
     for m in 0..n {
-        let run = machine.tokenise(work, &start, over.text.line(m), steps)?;
-        start = run.end().copy()?;
+        let earlier = machine.tokenise(work, &start, over.text.line(m), steps)?;
+        start = earlier.end().copy()?;
     }
     let run = machine.tokenise(work, &start, over.text.line(n), steps)?;
     Ok(run)

@@ -4,9 +4,9 @@ use Rattle.session_defs.specs.Words.{no_options, with_options}
 use Rattle.bracket_program.proofs.words.options_in.Given as goal
 
 -- the words that are left give the same options behind those so far
-abbrev pub invariant-loop : goal.invariant-loop
-invariant-loop l =
-    with_options l.given (map string_bytes l.left.now) ≡ with_options no_options (map string_bytes l.fn.words.now)
+abbrev pub invariant-loop-left : goal.invariant-loop-left
+invariant-loop-left l =
+    with_options l.given (map string_bytes l.left) ≡ with_options no_options (map string_bytes l.fn.words)
 
-abbrev pub decreases-loop : goal.decreases-loop
-decreases-loop l = length l.left.now
+abbrev pub decreases-loop-left : goal.decreases-loop-left
+decreases-loop-left l = length l.left

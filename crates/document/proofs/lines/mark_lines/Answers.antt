@@ -1,4 +1,4 @@
-use Rattle.std.proofs.Common.{◌≡◌, ◌<◌, ◌≤◌, ℕ, ◌+◌, List, [], ◌∷◌, ◌++◌, refl, ap, sym, ◌∙◌, length, map, take, drop, length-append, append-nil, arith}
+use Rattle.std.proofs.Common.{◌≡◌, ◌<◌, ◌≤◌, ℕ, ◌+◌, List, [], ◌∷◌, ◌++◌, refl, ap, sym, ◌∙◌, length, map, drop, length-append, append-nil, arith}
 use Rattle.std.proofs.lemmas.List.{map-append, take_all, drop_all}
 use Rattle.text_defs.specs.Text.{lines_of, line_in}
 use Rattle.scope_defs.specs.Frames.{Start, bare}
