@@ -15,6 +15,7 @@ use Rattle.grammar_defs.specs.GrammarShape.{GrammarReading, read_file}
 use Rattle.grammar_defs.specs.GrammarShape as file
 use Rattle.grammar_defs.specs.BracketShape.{BracketReading, read_bracket_file}
 use Rattle.grammar_defs.specs.BracketShape as pairs
+use Rattle.injection_defs.specs.Injections.{injections_of}
 use Rattle.graph_defs.specs.GraphMeaning.{FileGraph, GraphReading, reading}
 use Rattle.graph_defs.specs.GraphMeaning as graph
 use Rattle.line_defs.specs.Machine.{Machine}
@@ -48,8 +49,13 @@ grammar_of_file bytes = grammar_read (read_file bytes)
 
 -- what runs over lines by its rules
 abbrev pub machine_by : FileGraph → Limits → Machine
-machine_by g limits =
-    record { rules = g.rules; injections = []; reader = read_tree; budget = limits.budget; long = limits.long }
+machine_by g limits = record {
+  rules = g.rules;
+  injections = injections_of g.rules g.injections;
+  reader = read_tree;
+  budget = limits.budget;
+  long = limits.long;
+}
 
 -- ---- bracket files
 
