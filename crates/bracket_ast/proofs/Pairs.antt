@@ -26,6 +26,7 @@ pub pair_keeps : (opener : Tree) (inside closer : Option Tree) (extent : Length)
       height = 0;
       depth = deep;
       cut = cut;
+      bare = false;
       missing = missing;
       parts =
           parts.Pair opener inside closer;
@@ -37,6 +38,7 @@ pair_keeps (Bracket len kind) inside closer extent deep cut missing are so si fi
       height = refl;
       depth = is_deep;
       cut = is_cut;
+      bare = refl;
       missing = are_missing;
       sound = pair_sound (Bracket len kind) inside closer are so si fits;
     }
