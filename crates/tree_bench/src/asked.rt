@@ -23,7 +23,9 @@ fn place(number: u32, lines: u32) -> Pos {
 
 fn start_of(twin: Option<Twin>) -> u64 {
     match twin {
-        Some(twin) => u64::from(twin.second.from.line).saturating_add(u64::from(twin.second.from.col)),
+        Some(twin) => u64::from(twin.second.from.line).saturating_add(u64::from(
+            twin.second.from.col,
+        )),
         None => 1,
     }
 }
@@ -79,17 +81,37 @@ pub(crate) fn ask_all(rt: &HostRuntime, tree: &Tree, text: &Text, timed: bool) -
     let start = nanoseconds(rt)?;
     let sum = levels(tree, lines);
     let second = nanoseconds(rt)?;
-    tell(rt, "level", sum, timed.then_some(second.saturating_sub(start)))?;
+    tell(
+        rt,
+        "level",
+        sum,
+        timed.then_some(second.saturating_sub(start)),
+    )?;
     let start = nanoseconds(rt)?;
     let sum = matches(tree, lines);
     let second = nanoseconds(rt)?;
-    tell(rt, "match", sum, timed.then_some(second.saturating_sub(start)))?;
+    tell(
+        rt,
+        "match",
+        sum,
+        timed.then_some(second.saturating_sub(start)),
+    )?;
     let start = nanoseconds(rt)?;
     let sum = arounds(tree, lines);
     let second = nanoseconds(rt)?;
-    tell(rt, "around", sum, timed.then_some(second.saturating_sub(start)))?;
+    tell(
+        rt,
+        "around",
+        sum,
+        timed.then_some(second.saturating_sub(start)),
+    )?;
     let start = nanoseconds(rt)?;
     let sum = jumps(tree, lines);
     let second = nanoseconds(rt)?;
-    tell(rt, "jump", sum, timed.then_some(second.saturating_sub(start)))
+    tell(
+        rt,
+        "jump",
+        sum,
+        timed.then_some(second.saturating_sub(start)),
+    )
 }

@@ -1,5 +1,5 @@
 //! Parses the brackets of a text to a tree, and asks the tree. The text comes from standard input; the program tells how
-//! many lines, nodes and rows there are, and what the descents answer at places all over the text, in short sums. With
+//! many lines and nodes there are, and what the descents answer at places all over the text, in short sums. With
 //! the word `times` the processor's time in nanoseconds stands behind each.
 #![tactic(auto)]
 

@@ -105,3 +105,27 @@ next_pair t from p at i kinds =
 pub next_lone : (t : Tree) (from : Length) (m : MarkAt) (at : Pos) → IsLoneAt t from m → (kinds : List ℕ)
     → next_known at (known t from kinds) ≡ (if is_up_to at (start_of_mark m) then Some (start_of_mark m) else None)
 next_lone t from m at i kinds = ap (next_known at) (lone_read t from m i kinds) ∙ one_next at (lone_known m kinds)
+
+-- ---- lists
+pub next_two : (t a b : Tree) (from second : Length) (at : Pos) (kinds : List ℕ) → t ≡ Two a b
+    → second ≡ plus from (length_of a) → next_known at (known t from kinds)
+    ≡ option_or (next_known at (known a from kinds)) (next_known at (known b second kinds))
+next_two t a b from second at kinds is starts =
+    ap (λ x. next_known at (known x from kinds)) is
+    ∙ next_append at (known a from kinds) (known b (plus from (length_of a)) kinds)
+    ∙ ap (λ p. option_or (next_known at (known a from kinds)) (next_known at (known b p kinds))) (sym starts)
+
+pub next_three : (t a b c : Tree) (from second third : Length) (at : Pos) (kinds : List ℕ) → t ≡ Three a b c
+    → second ≡ plus from (length_of a) → third ≡ plus second (length_of b) → next_known at (known t from kinds)
+    ≡ option_or (next_known at (known a from kinds))
+    (option_or (next_known at (known b second kinds)) (next_known at (known c third kinds)))
+next_three t a b c from second third at kinds is starts ends =
+    let mid = plus from (length_of a) in
+    let first = next_known at (known a from kinds) in
+    ap (λ x. next_known at (known x from kinds)) is
+    ∙ next_append at (known a from kinds) (known b mid kinds ++ known c (plus mid (length_of b)) kinds)
+    ∙ ap (option_or first) (next_append at (known b mid kinds) (known c (plus mid (length_of b)) kinds))
+    ∙ ap (λ p. option_or first (option_or (next_known at (known b p kinds)) (next_known at (known c (plus p (length_of b)) kinds))))
+    (sym starts)
+    ∙ ap (λ p. option_or first (option_or (next_known at (known b second kinds)) (next_known at (known c p kinds))))
+    (sym ends)

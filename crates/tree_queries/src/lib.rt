@@ -7,6 +7,7 @@ mod parts;
 pub mod places;
 pub mod ranges;
 
+pub use answer_defs::{BracketRow, GuideRow, GuideRows, MarkAt, PairRow, PairRows, Rows, Twin};
 pub use guide_lines::guides;
 pub use jumps::jump;
 pub use places::{around, level_at, match_at};
