@@ -1,6 +1,7 @@
 //! Parses the brackets of a text to a tree, and asks the tree. The text comes from standard input; the program tells how
 //! many lines and nodes there are, and what the descents answer at places all over the text, in short sums. With
-//! the word `times` the processor's time in nanoseconds stands behind each.
+//! the word `times` the processor's time in nanoseconds stands behind each, and with `unparsed` the program stops before it
+//! parses.
 #![tactic(auto)]
 
 mod asked;
@@ -16,10 +17,16 @@ use std::env;
 use std::rt::CpuClock;
 
 fn main(rt: HostRuntime) -> Result<()> {
-    let timed = env::args(&rt)?
-        .into_iter()
-        .any(|word| word.as_str() == "times");
-    run(&rt, timed)
+    let mut timed = false;
+    let mut parsed = true;
+    for word in env::args(&rt)? {
+        match word.as_str() {
+            "times" => timed = true,
+            "unparsed" => parsed = false,
+            _ => {}
+        }
+    }
+    run(&rt, timed, parsed)
 }
 
 pub(crate) fn nanoseconds(rt: &HostRuntime) -> Result<u64> {
@@ -50,7 +57,7 @@ fn given(rt: &HostRuntime) -> Result<String> {
     Ok(text)
 }
 
-fn run(rt: &HostRuntime, timed: bool) -> Result<()> {
+fn run(rt: &HostRuntime, timed: bool, parsed: bool) -> Result<()> {
     let alloc = rt.alloc();
     let file = given(rt)?;
     let Ok(text) = Text::from_bytes(alloc, file.as_str().as_bytes()) else {
@@ -58,6 +65,9 @@ fn run(rt: &HostRuntime, timed: bool) -> Result<()> {
         return Ok(());
     };
     let lines = lines_of(alloc, &text)?;
+    if !parsed {
+        return Ok(());
+    }
     let start = nanoseconds(rt)?;
     let tree = tree_of(alloc, &lines, 200)?;
     let time = nanoseconds(rt)?.saturating_sub(start);
