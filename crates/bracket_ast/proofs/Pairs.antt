@@ -1,5 +1,5 @@
 -- The fields of a pair keep what a node's fields keep.
-use Rattle.std.proofs.Common.{◌≡◌, ℕ, ◌+◌, Bool, Option, Some, None, refl}
+use Rattle.std.proofs.Common.{◌≡◌, ℕ, ◌+◌, Bool, false, Option, Some, None, refl}
 use Rattle.text_pos.specs.declared.length.Length.{Length}
 use Rattle.text_pos.specs.declared.kinds.Kinds.{Kinds}
 use Rattle.text_pos.specs.KindSet.{has_kind}
@@ -26,6 +26,7 @@ pub pair_keeps : (opener : Tree) (inside closer : Option Tree) (extent : Length)
       height = 0;
       depth = deep;
       cut = cut;
+      bare = false;
       missing = missing;
       parts =
           parts.Pair opener inside closer;
@@ -37,6 +38,7 @@ pair_keeps (Bracket len kind) inside closer extent deep cut missing are so si fi
       height = refl;
       depth = is_deep;
       cut = is_cut;
+      bare = refl;
       missing = are_missing;
       sound = pair_sound (Bracket len kind) inside closer are so si fits;
     }

@@ -3,7 +3,7 @@ use Rattle.std.specs.Prelude.{◌≡◌, ℕ, Bool}
 use Rattle.text_pos.specs.declared.length.Length.{Length}
 use Rattle.text_pos.specs.declared.kinds.Kinds.{Kinds}
 use Rattle.text_pos.specs.KindSet.{has_kind}
-use Rattle.tree_defs.specs.Tree.{Tree, Text, Bracket, Lone, depth, is_cut, misses}
+use Rattle.tree_defs.specs.Tree.{Tree, Text, Bracket, Lone, depth, is_cut, is_bare, misses}
 use Rattle.tree_defs.specs.Shape.{length_of, height}
 use Rattle.bracket_ast.specs.Shapes.{pair_of, list_of, IsPair, IsList, Sound}
 use Rattle.bracket_ast.specs.declared.node.Inner.{Inner}
@@ -35,5 +35,6 @@ pub record Keeps (i : Inner) : Type 0 where
   pub height : i.height ≡ height (tree_of i)
   pub depth : i.depth ≡ depth (tree_of i)
   pub cut : i.cut ≡ is_cut (tree_of i)
+  pub bare : i.bare ≡ is_bare (tree_of i)
   pub missing : (k : ℕ) → has_kind i.missing k ≡ misses (tree_of i) k
   pub sound : Sound (tree_of i)

@@ -1,7 +1,7 @@
 ghost use Rattle.std.specs.Prelude.{◌≡◌, ℕ, ◌+◌, ◌<◌, ◌^◌, ◌↔◌, ◌≤◌, Bool, false, IsTrue, IfOk};
 ghost use Rattle.text_pos.specs.KindSet.{has_kind};
 ghost use Rattle.text_pos.specs.Lengths.{plus};
-ghost use Rattle.tree_defs.specs.Tree.{Tree, Text, Bracket, Lone, Two, Three, Passes, CanBeReused, depth, is_cut, misses};
+ghost use Rattle.tree_defs.specs.Tree.{Tree, Text, Bracket, Lone, Two, Three, Passes, CanBeReused, depth, is_cut, is_bare, misses};
 ghost use Rattle.tree_defs.specs.Shape.{and_closer, length_of, height, Fits, IsSome};
 ghost use Rattle.bracket_ast.specs.View.{tree_of, Keeps};
 ghost use Rattle.bracket_ast.specs.Sorts.{sort_of};
@@ -38,6 +38,7 @@ struct Inner {
     height: u32,
     depth: u32,
     cut: bool,
+    bare: bool,
     missing: Kinds,
     parts: Parts,
 }
@@ -116,6 +117,13 @@ impl Node {
         ensures { result ≡ is_cut self.now }
     {
         self.shared.cut
+    }
+
+    /// Whether the node has no row: no pair and no unexpected closer.
+    pub fn is_bare(&self) -> bool
+        ensures { result ≡ is_bare self.now }
+    {
+        self.shared.bare
     }
 
     /// All kinds that unexpected closers in the node close.
@@ -238,6 +246,7 @@ impl Node {
                 height: 0,
                 depth: 0,
                 cut,
+                bare: true,
                 missing: Kinds::empty(),
                 parts: Parts::Text,
             },
@@ -257,6 +266,7 @@ impl Node {
                 height: 0,
                 depth: 0,
                 cut: false,
+                bare: true,
                 missing: Kinds::empty(),
                 parts,
             },
@@ -275,6 +285,7 @@ impl Node {
                 height: 0,
                 depth: 0,
                 cut: false,
+                bare: false,
                 missing: closes,
                 parts: Parts::Unexpected,
             },
@@ -308,6 +319,7 @@ impl Node {
                 height: 0,
                 depth,
                 cut,
+                bare: false,
                 missing,
                 parts: Parts::Pair(opener, inside, closer),
             },
@@ -324,6 +336,7 @@ impl Node {
         let height = one_higher(a);
         let depth = a.depth().max(b.depth());
         let cut = a.is_cut() | b.is_cut();
+        let bare = a.is_bare() & b.is_bare();
         let missing = a.missing().with(b.missing());
         let a = a.copy()?;
         let b = b.copy()?;
@@ -334,6 +347,7 @@ impl Node {
                 height,
                 depth,
                 cut,
+                bare,
                 missing,
                 parts: Parts::Two([a, b]),
             },
@@ -352,6 +366,7 @@ impl Node {
         let height = one_higher(a);
         let depth = a.depth().max(b.depth().max(c.depth()));
         let cut = a.is_cut() | (b.is_cut() | c.is_cut());
+        let bare = a.is_bare() & (b.is_bare() & c.is_bare());
         let missing = a.missing().with(b.missing().with(c.missing()));
         let a = a.copy()?;
         let b = b.copy()?;
@@ -363,6 +378,7 @@ impl Node {
                 height,
                 depth,
                 cut,
+                bare,
                 missing,
                 parts: Parts::Three([a, b, c]),
             },

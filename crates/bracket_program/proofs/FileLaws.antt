@@ -71,10 +71,12 @@ module _ (contents : List ℕ → Told) where
   each_named k (Some name) (Some bytes) o = ((bytes, o), tt)
 
   pub each_opened : (r : Request) (inputs : Inputs) → OpensAll contents r inputs → Each IsOpened (files_of r)
-  each_opened r inputs o =
-      ((inputs.text, o.text), each_append IsOpened (named_if kind.Grammar r.grammar) (named_if kind.Brackets r.brackets)
-      (each_named kind.Grammar r.grammar inputs.grammar o.grammar)
-      (each_named kind.Brackets r.brackets inputs.brackets o.brackets))
+  each_opened r inputs o = (
+    (inputs.text, o.text),
+    each_append IsOpened (named_if kind.Grammar r.grammar) (named_if kind.Brackets r.brackets)
+        (each_named kind.Grammar r.grammar inputs.grammar o.grammar)
+        (each_named kind.Brackets r.brackets inputs.brackets o.brackets),
+  )
 
   -- where all files were opened, none of them can't be
   pub not_opened : (r : Request) (inputs : Inputs) → OpensAll contents r inputs

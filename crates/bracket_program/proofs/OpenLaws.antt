@@ -207,8 +207,11 @@ module _ (contents : List ℕ → Told) (faults faults' : List ℕ → ℕ) (r :
   machine_end_by o None e s h = none_end kind.Grammar s h
   machine_end_by o (Some name) e s h =
       file_end (file kind.Grammar name)
-      (λ P p. inr (o, subst (λ g. Reaches contents P (named_if kind.Grammar g ++ named_if kind.Brackets r.brackets))
-      (sym e) (inl p))) s h
+      (λ P p. inr (
+        o,
+        subst (λ g. Reaches contents P (named_if kind.Grammar g ++ named_if kind.Brackets r.brackets))
+            (sym e) (inl p),
+      )) s h
 
   pub machine_end : IsOpened contents (file kind.Text r.text) → (s : Status)
       → IsNamedEnd contents faults faults' kind.Grammar r.grammar s → IsOpenEnd contents faults faults' r s
@@ -225,9 +228,12 @@ module _ (contents : List ℕ → Told) (faults faults' : List ℕ → ℕ) (r :
   brackets_end_by o bytes g None e s h = none_end kind.Brackets s h
   brackets_end_by o bytes g (Some name) e s h =
       file_end (file kind.Brackets name)
-      (λ P p. inr (o, reaches_behind P (named_if kind.Grammar r.grammar) (named_if kind.Brackets r.brackets)
-      (each_named contents kind.Grammar r.grammar bytes g)
-      (subst (λ b. Reaches contents P (named_if kind.Brackets b)) (sym e) (inl p)))) s h
+      (λ P p. inr (
+        o,
+        reaches_behind P (named_if kind.Grammar r.grammar) (named_if kind.Brackets r.brackets)
+            (each_named contents kind.Grammar r.grammar bytes g)
+            (subst (λ b. Reaches contents P (named_if kind.Brackets b)) (sym e) (inl p)),
+      )) s h
 
   pub brackets_end : IsOpened contents (file kind.Text r.text) → (bytes : Option (List ℕ))
       → OpensIf contents kind.Grammar r.grammar bytes → (s : Status)

@@ -67,9 +67,15 @@ module _ (contents : List ℕ → Told) (faults faults' : List ℕ → ℕ) (bef
       → AnswersTaken contents before after P r
   answers_taken r read o cut P p inputs script f l =
       let t = taken_of script cut.script before.left after.left l cut.takes in
-      let same = same_inputs contents r read inputs o f in
-      (cut.script, t.0, t.1, t.2, cut.writes
-      ∙ ap (λ i. appended before.held (written_for (session_of r.limits i) (whole_lines cut.script))) same, p)
+      let same = same_inputs contents r read inputs o f in (
+        cut.script,
+        t.0,
+        t.1,
+        t.2,
+        cut.writes
+            ∙ ap (λ i. appended before.held (written_for (session_of r.limits i) (whole_lines cut.script))) same,
+        p,
+      )
 
   writes_some : (r : Request) (read : Inputs) → OpensAll contents r read
       → IsFront before after (session_of r.limits read) → WritesSome contents before after r

@@ -17,24 +17,46 @@ struct FileCase<'a> {
     status: Status,
 }
 
-const BLOCK: &str = r#"{"scopeName":"s","patterns":[{"name":"comment.block","begin":"/\\*","end":"\\*/"}]}"#;
+const BLOCK: &str =
+    r#"{"scopeName":"s","patterns":[{"name":"comment.block","begin":"/\\*","end":"\\*/"}]}"#;
+
 const SLOW: &str = r#"{"scopeName":"s","patterns":[{"match":"(a*)*b","name":"k"}]}"#;
-const HERE: &str = r#"{"scopeName":"s","patterns":[{"name":"string.here","begin":"<<(\\w+)","end":"^\\1$"}]}"#;
-const QUOTE: &str = r#"{"scopeName":"s","patterns":[{"name":"string.quote","begin":"^>","while":"^>"}]}"#;
-const CAPTURED: &str = r#"{"scopeName":"s","patterns":[{"match":"a(?=(bc))","name":"m","captures":{"1":{"name":"cap","patterns":[{"match":"c","name":"in"}]}}}]}"#;
-const EMPTY_ENDS: &str = r#"{"scopeName":"s","patterns":[{"name":"z","begin":"(?=a)","end":"(?=a)"}]}"#;
-const TINY: &str = r##"{"name":"Tiny","scopeName":"source.tiny","fileTypes":["tiny"],"patterns":[{"include":"#all"}],"repository":{"all":{"patterns":[{"include":"#line"},{"include":"#text"}]},"line":{"match":"//.*$","name":"comment.line.tiny"},"text":{"begin":"\"","end":"\"","name":"string.quoted.tiny","patterns":[{"match":"\\\\.","name":"constant.character.escape.tiny"}]}}}"##;
-const ANCHORED: &str = r#"{"scopeName":"s","patterns":[{"name":"r","begin":"a\\n","end":"z","patterns":[{"match":"\\Gb","name":"g"}]}]}"#;
-const UNREAD: &str = r#"{"scopeName":"s","patterns":[{"match":"(?~x)","name":"q"},{"match":"(","name":"q"}]}"#;
-const NAMED: &str = r#"{"scopeName":"s","patterns":[{"match":"(\\.a)|b","name":"x.$1k${1:/upcase} y.$7"}]}"#;
+
+const HERE: &str =
+    r#"{"scopeName":"s","patterns":[{"name":"string.here","begin":"<<(\\w+)","end":"^\\1$"}]}"#;
+
+const QUOTE: &str =
+    r#"{"scopeName":"s","patterns":[{"name":"string.quote","begin":"^>","while":"^>"}]}"#;
+
+const CAPTURED: &str =
+    r#"{"scopeName":"s","patterns":[{"match":"a(?=(bc))","name":"m","captures":{"1":{"name":"cap","patterns":[{"match":"c","name":"in"}]}}}]}"#;
+
+const EMPTY_ENDS: &str =
+    r#"{"scopeName":"s","patterns":[{"name":"z","begin":"(?=a)","end":"(?=a)"}]}"#;
+
+const TINY: &str =
+    r##"{"name":"Tiny","scopeName":"source.tiny","fileTypes":["tiny"],"patterns":[{"include":"#all"}],"repository":{"all":{"patterns":[{"include":"#line"},{"include":"#text"}]},"line":{"match":"//.*$","name":"comment.line.tiny"},"text":{"begin":"\"","end":"\"","name":"string.quoted.tiny","patterns":[{"match":"\\\\.","name":"constant.character.escape.tiny"}]}}}"##;
+
+const ANCHORED: &str =
+    r#"{"scopeName":"s","patterns":[{"name":"r","begin":"a\\n","end":"z","patterns":[{"match":"\\Gb","name":"g"}]}]}"#;
+
+const UNREAD: &str =
+    r#"{"scopeName":"s","patterns":[{"match":"(?~x)","name":"q"},{"match":"(","name":"q"}]}"#;
+
+const NAMED: &str =
+    r#"{"scopeName":"s","patterns":[{"match":"(\\.a)|b","name":"x.$1k${1:/upcase} y.$7"}]}"#;
+
 const CUT: &str = r#"{"scopeName":"s"#;
+
 const USUAL_FILE: &str = r#"{
   // the usual three
   "brackets": [["{","}"],["[","]"],["(",")"],],
   "comments": {"lineComment":"//"},
 }
 "#;
+
 const WORDS: &str = r#"{"brackets":[["begin","end"]]}"#;
+
 const ONE_TEXT: &str = r#"{"brackets":[["("]]}"#;
 
 const CASES: [FileCase<'static>; 15] = [
@@ -223,7 +245,13 @@ fn sessions_over_grammars_have_the_worked_replies(rt: HostRuntime) -> Result<(),
         let mut files = files_of(rt.alloc(), case)?;
         let mut script = MemSource::new(rt.alloc(), case.script.as_bytes(), 65_536, &[])?;
         let mut sink = MemSink::new(rt.alloc(), 1 << 20, 65_536, &[])?;
-        let status = run_over(rt.alloc(), words.as_slice(), &mut files, &mut script, &mut sink)?;
+        let status = run_over(
+            rt.alloc(),
+            words.as_slice(),
+            &mut files,
+            &mut script,
+            &mut sink,
+        )?;
         assert_eq!(rt; status, case.status, "case {n}");
         assert_eq!(rt; sink.bytes(), case.wrote.as_bytes(), "case {n}");
     }

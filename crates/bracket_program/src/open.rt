@@ -153,7 +153,13 @@ fn machine_in(alloc: Global, bytes: &[u8], limits: Limits) -> Result<Machine, St
         Err(GraphRefusal::TooWide { .. }) => return Err(Status::GrammarFile),
     };
     let unread = graph.unread();
-    let machine = Machine::new(alloc, graph.into_table(), grammar.scope.text(), unread, limits)?;
+    let machine = Machine::new(
+        alloc,
+        graph.into_table(),
+        grammar.scope.text(),
+        unread,
+        limits,
+    )?;
     Ok(machine)
 }
 

@@ -96,7 +96,11 @@ fn respond(alloc: Global, document: &mut Document<Machine>, cut: &Cut) -> Result
     }
 }
 
-fn obey(alloc: Global, document: &mut Document<Machine>, command: &Command) -> Result<Reply, AllocError>
+fn obey(
+    alloc: Global,
+    document: &mut Document<Machine>,
+    command: &Command,
+) -> Result<Reply, AllocError>
     ensures reply { IfOk result (λ r. r ≡ (command_step (settings_in document.old) document.old.text command.now).reply) }
     ensures text { OnOk result (document.new.text ≡ (command_step (settings_in document.old) document.old.text command.now).text) }
     ensures settings { settings_in document.new ≡ settings_in document.old }
@@ -113,7 +117,11 @@ fn obey(alloc: Global, document: &mut Document<Machine>, command: &Command) -> R
     }
 }
 
-fn edit(alloc: Global, document: &mut Document<Machine>, edits: &[Edit]) -> Result<Reply, AllocError>
+fn edit(
+    alloc: Global,
+    document: &mut Document<Machine>,
+    edits: &[Edit],
+) -> Result<Reply, AllocError>
     ensures reply { IfOk result (λ r. r ≡ (edit_step document.old.text (edited document.old.text edits.now) (batch_refusal document.old.text edits.now)).reply) }
     ensures text { OnOk result (document.new.text ≡ (edit_step document.old.text (edited document.old.text edits.now) (batch_refusal document.old.text edits.now)).text) }
     ensures settings { settings_in document.new ≡ settings_in document.old }

@@ -59,9 +59,7 @@ pub(crate) fn run_over<S: Source, K: Sink>(
     }
     let words = named.as_slice();
     let (steps, marks) = (Blank::new(1), Blank::new(1));
-    let status = run_counted::<Brand, Brand, S, K>(
-        alloc, words, files, script, sink, steps, marks,
-    );
+    let status = run_counted::<Brand, Brand, S, K>(alloc, words, files, script, sink, steps, marks);
     Ok(status)
 }
 

@@ -24,10 +24,10 @@ impl<'a> Model for Request<'a> {
     ghost Value = { Asked };
 
     ghost view = { λ r. record {
-        text = r.text.now;
-        grammar = option_map (λ name. name.now) r.grammar;
-        brackets = option_map (λ name. name.now) r.brackets;
-        limits = r.limits;
+      text = r.text.now;
+      grammar = option_map (λ name. name.now) r.grammar;
+      brackets = option_map (λ name. name.now) r.brackets;
+      limits = r.limits;
     } };
 }
 
@@ -49,12 +49,12 @@ impl<'a> Model for Options<'a> {
     ghost Value = { Given };
 
     ghost view = { λ o. record {
-        grammar = option_map (λ value. value.now) o.grammar;
-        brackets = option_map (λ value. value.now) o.brackets;
-        nesting = option_map (λ value. value.now) o.nesting;
-        steps = option_map (λ value. value.now) o.steps;
-        long = option_map (λ value. value.now) o.long;
-        tab = option_map (λ value. value.now) o.tab;
+      grammar = option_map (λ value. value.now) o.grammar;
+      brackets = option_map (λ value. value.now) o.brackets;
+      nesting = option_map (λ value. value.now) o.nesting;
+      steps = option_map (λ value. value.now) o.steps;
+      long = option_map (λ value. value.now) o.long;
+      tab = option_map (λ value. value.now) o.tab;
     } };
 }
 

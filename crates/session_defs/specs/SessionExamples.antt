@@ -166,8 +166,12 @@ command_lines = refl
 pub all_options : request_of
     (codes "brackets" ∷ codes "t" ∷ codes "--tab" ∷ codes "8" ∷ codes "--grammar" ∷ codes "g" ∷ codes "--steps" ∷ codes "100" ∷ codes "--brackets" ∷ codes "-"
     ∷ codes "--nesting" ∷ codes "7" ∷ codes "--long" ∷ codes "1000000" ∷ [])
-    ≡ Some (record { text = codes "t"; grammar = Some (codes "g"); brackets = Some (codes "-");
-    limits = record { nesting = 7; budget = 100; long = 1000000; tab = 8 } })
+    ≡ Some (record {
+      text = codes "t";
+      grammar = Some (codes "g");
+      brackets = Some (codes "-");
+      limits = record { nesting = 7; budget = 100; long = 1000000; tab = 8 };
+    })
 all_options = refl
 
 -- an option twice, even with one value; an unknown one; one without a value; a file that begins with `-`, and an empty one

@@ -9,7 +9,7 @@ use Rattle.pairing_defs.specs.declared.Row.{Row}
 use Rattle.answer_defs.specs.declared.answer.MarkAt.{MarkAt}
 use Rattle.answer_defs.specs.declared.pair_answer.Twin.{Twin}
 use Rattle.answer_defs.specs.PairAnswers.{opens, partner_of, mark_at, encloses, encloses_closed, level_in, around_in}
-use Rattle.answer_defs.specs.PairAnswers.{twin, twin_of, find_last, stands_at, ends_at, touched, match_in, starts_from, reaches_lines}
+use Rattle.answer_defs.specs.PairAnswers.{twin, twin_of, find_last, stands_at, ends_at, touched, match_in, starts_from, reaches_lines, next_start}
 use Rattle.answer_defs.specs.PairAnswers.{has_guide, pair_row, guide_row, pairs_in, guides_of_line}
 use Rattle.answer_defs.specs.Answers.{bracket_row, is_in_lines, brackets_in}
 use Rattle.tree_defs.specs.Tree.{Tree}
@@ -17,7 +17,7 @@ use Rattle.tree_defs.specs.Items.{items_of}
 use Rattle.tree_defs.specs.Items as items
 use Rattle.tree_defs.specs.Rows.{start, tree_rows, AreFull}
 use Rattle.tree_queries.specs.Known.{Known, known}
-use Rattle.tree_queries.specs.Answers.{by_row, twin_known, twin_with, level_known, around_known, touches, match_known}
+use Rattle.tree_queries.specs.Answers.{by_row, twin_known, twin_with, level_known, around_known, touches, match_known, next_known}
 use Rattle.tree_queries.specs.Answers.{brackets_known, pair_known, pairs_known, guides_known}
 use Rattle.tree_queries.specs.Told.{HasRows, IsPlaced}
 use Rattle.tree_queries.specs.Parts.{Placed}
@@ -199,3 +199,16 @@ around_is t rows at placed has =
     (reverse (known t start []))
     (reverse_told rows rows (known t start []) (whole_told t rows placed has)) in
     twins_told rows (find_last (encloses_closed at) rows) _ found
+
+next_found : (all : List Row) (o : Option Row) (x : Option Known) → FoundTold all o x
+    → option_map (λ r. r.mark.at) o ≡ option_map (λ k. k.row.mark.at) x
+next_found all None None told = refl
+next_found all None (Some x) told = absurd told
+next_found all (Some r) None told = absurd told
+next_found all (Some r) (Some x) told = ap Some told.at
+
+pub next_is : (t : Tree) (rows : List Row) (at : Pos) → IsPlaced t → HasRows t rows
+    → next_start rows at ≡ next_known at (known t start [])
+next_is t rows at placed has =
+    next_found rows (find (starts_from at) rows) _
+    (find_told rows (starts_from at) (starts_agrees rows at) rows (known t start []) (whole_told t rows placed has))

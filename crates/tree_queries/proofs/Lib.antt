@@ -5,6 +5,7 @@ pub mod Lists
 pub mod Order
 pub mod Opened
 pub mod Outcomes
+pub mod NextPlaces
 pub mod NodePlaces
 pub mod PairRows
 pub mod GuideRows

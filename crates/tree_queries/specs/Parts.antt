@@ -145,3 +145,8 @@ guide_of tab lines n level p =
       column = min (indentation_of tab lines p.opener.line) (indentation_of tab lines p.end.lines);
       level = level;
     } ∷ [] else []
+
+-- where a mark starts, if that is at a place or behind it
+abbrev pub next_of : Pos → Option MarkAt → Option Pos
+next_of at None = None
+next_of at (Some m) = if is_up_to at (start_of_mark m) then Some (start_of_mark m) else None

@@ -200,7 +200,7 @@ pub(crate) fn is_before(a: Pos, b: Length) -> bool
 }
 
 /// Whether an end lies before a place; with `over` it may lie right there.
-fn is_left(end: Length, at: Pos, over: bool) -> bool
+pub(crate) fn is_left(end: Length, at: Pos, over: bool) -> bool
     ensures { result ≡ left_of over (place end) at }
 {
     if over {

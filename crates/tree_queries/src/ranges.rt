@@ -61,6 +61,9 @@ fn add_brackets(
     ensures found { OnOk result (found.new ≡ found.old ++ brackets_known lines.from lines.to (known node.now at kinds.old.items)) }
     ensures kinds { OnOk result (kinds.new.items ≡ kinds.old.items) }
 {
+    if node.is_bare() {
+        return Ok(());
+    }
     if is_outside(at, end_of(node, at), lines) {
         return Ok(());
     }

@@ -20,7 +20,8 @@ fn places_agree(tree: &Tree, rows: &[Row], at: Pos) -> bool
     let levels = tree_queries::level_at(tree, at) == pair_queries::level_at(rows, at);
     let matches = tree_queries::match_at(tree, at) == pair_queries::match_at(rows, at);
     let around = tree_queries::around(tree, at) == pair_queries::around(rows, at);
-    levels && matches && around
+    let jumps = tree_queries::jump(tree, at) == pair_queries::jump(rows, at);
+    levels && matches && around && jumps
 }
 
 /// Whether each question about a range of lines has one answer, by a descent and over rows.

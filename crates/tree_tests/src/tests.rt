@@ -42,6 +42,7 @@ fn a_list_keeps_what_its_nodes_keep(rt: HostRuntime) -> Result<(), Fail> {
     assert_eq!(rt; list.height(), 1);
     assert_eq!(rt; list.length(), Length { lines: 0, cols: 2 });
     assert_eq!(rt; list.depth(), 0);
+    assert!(rt; !list.is_bare());
     assert!(rt; list.missing().has(1) && !list.missing().has(2));
     assert!(rt; list.can_be_reused(Kinds::one(2), 0, 0));
     assert!(rt; !list.can_be_reused(Kinds::one(1), 0, 0));
@@ -57,7 +58,7 @@ fn a_pair_keeps_what_lies_in_it(rt: HostRuntime) -> Result<(), Fail> {
     assert_eq!(rt; closed.length(), Length { lines: 1, cols: 5 });
     assert_eq!(rt; closed.depth(), 1);
     assert_eq!(rt; closed.opener().kind(), 2);
-    assert!(rt; closed.is_cut());
+    assert!(rt; closed.is_cut() && text.is_bare() && !closed.is_bare());
     assert!(rt; closed.inside().is_some() && closed.closer().is_some() && open.closer().is_none());
     let empty = Node::pair(rt.alloc(), &bracket, None, Some(&bracket))?;
     assert!(rt; empty.copy()?.can_be_reused(Kinds::one(2), 4, 5));

@@ -4,8 +4,15 @@ use Rattle.tree_queries.specs.Known.{known}
 use Rattle.tree_queries.specs.Answers.{brackets_known}
 use Rattle.tree_queries.specs.Parts.{pair_opener, pair_closers}
 use Rattle.tree_queries.proofs.NodePlaces.{inner_tree}
+use Rattle.tree_queries.proofs.NextPlaces.{bare_rows}
 use Rattle.tree_queries.proofs.PairRows.{brackets_outside, brackets_append, pair_read}
 use Rattle.tree_queries.proofs.ranges.+brackets.Goals as goal
+
+pub add_brackets-returns-then-is_bare-clause-found : goal.add_brackets-returns-then-is_bare-clause-found
+add_brackets-returns-then-is_bare-clause-found t c =
+    sym (ap (λ l. c.args.found.now ++ brackets_known c.args.lines.from c.args.lines.to l)
+    (bare_rows c.args.node.now c.args.at c.args.kinds.now.items (sym c.is_bare.ensures ∙ c.if-is_bare.true))
+    ∙ append-nil c.args.found.now)
 
 pub add_brackets-returns-then-is_outside-clause-found : goal.add_brackets-returns-then-is_outside-clause-found
 add_brackets-returns-then-is_outside-clause-found t c =
