@@ -1,12 +1,12 @@
 -- The files that the words name: which of them is reached, and what is told of them.
-use Rattle.std.proofs.Common.{◌≡◌, ◌⊎◌, ℕ, ◌<◌, ◌≤◌, List, [], ◌∷◌, ◌++◌, refl, sym, ap, subst, ◌∙◌, arith, true, false}
+use Rattle.std.proofs.Common.{◌≡◌, ℕ, ◌<◌, ◌≤◌, List, [], ◌∷◌, ◌++◌, refl, sym, ap, subst, ◌∙◌, arith}
 use Rattle.std.proofs.Common.{inl, inr}
 use Rattle.std.specs.Prelude.{Option, Some, None}
 use Rattle.piece_io.specs.Told.{Told, Untold, Missing, Holds, risen}
 use Rattle.session_defs.specs.declared.file_kind.FileKind.{FileKind}
 use Rattle.session_defs.specs.declared.file_kind.FileKind.TheVariants as kind
 use Rattle.session_defs.specs.Words.{Request}
-use Rattle.session_defs.specs.Opening.{NamedFile, Inputs, named_if, files_of, is_accepted}
+use Rattle.session_defs.specs.Opening.{NamedFile, Inputs, named_if, files_of}
 use Rattle.bracket_program.specs.Run.{Reads, Opens, Refuses, CannotOpen, SameCounts, Reaches, RefusedAt, FailedAt}
 use Rattle.bracket_program.specs.Run.{Some_, Each, OpensIf, OpensAll, TellsIf, TellsAll, IsAccepted, IsRefused}
 use Rattle.bracket_program.specs.Run.{FirstRefused, Stands}

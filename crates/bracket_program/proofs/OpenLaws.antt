@@ -16,7 +16,7 @@ use Rattle.session_defs.specs.declared.file_kind.FileKind.TheVariants as kind
 use Rattle.session_defs.specs.Words.{Request}
 use Rattle.session_defs.specs.Opening.{NamedFile, OpenGrammar, Session, named_if, files_of, is_accepted, is_of_kind}
 use Rattle.session_defs.specs.Opening.{most_file_bytes, grammar_of_file, brackets_of_file, texts_of, session_by}
-use Rattle.bracket_program.specs.Run.{Reads, Opens, OpensIf, Refuses, SameCounts, IsFileEnd, Reaches, Each, refusal_of}
+use Rattle.bracket_program.specs.Run.{Opens, OpensIf, Refuses, SameCounts, IsFileEnd, Reaches, Each, refusal_of}
 use Rattle.bracket_program.specs.Texts.{ReadsFile, IsKindEnd}
 use Rattle.bracket_program.specs.Opens.{file, IsNamedEnd, IsOpenEnd, OpensText, OpensMachine, OpensBrackets, OpensDocument}
 use Rattle.bracket_program.specs.Sessions.{machine_for}

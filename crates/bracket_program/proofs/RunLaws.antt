@@ -9,7 +9,7 @@ use Rattle.session_defs.specs.Words.{Request}
 use Rattle.session_defs.specs.Opening.{Inputs, Session, files_of, session_of}
 use Rattle.session_defs.specs.Output.{output_of, written_for, script_lines, most_script_bytes}
 use Rattle.text_defs.specs.Text.{whole_lines}
-use Rattle.bracket_program.specs.Ends.{Outside, WritesFront, IsDone, IsCut, IsFront, IsEnd}
+use Rattle.bracket_program.specs.Ends.{Outside, WritesFront, IsCut, IsFront, IsEnd}
 use Rattle.bracket_program.specs.Run.{CannotOpen, SameCounts, Some_, OpensAll, RefusedAt, FailedAt, FirstRefused}
 use Rattle.bracket_program.specs.Run.{Answered, IsRun, AnswersAll, AnswersTaken, WritesSome, IsUntouched, refusal_of}
 use Rattle.bracket_program.specs.Run.{Stands, FilesStand, AllStand, AllAccepted}

@@ -1,5 +1,5 @@
 -- How the files that the words name are opened, and why they aren't.
-use Rattle.std.specs.Prelude.{◌≡◌, ◌⊎◌, ℕ, List, Option, Some, None, option_and_then}
+use Rattle.std.specs.Prelude.{◌≡◌, ℕ, List, Option, Some, None, option_and_then}
 use Rattle.text_pos.specs.declared.limits.Limits.{Limits}
 use Rattle.text_defs.specs.Text.{text_of}
 use Rattle.pairing_defs.specs.declared.BracketText.{BracketText}

@@ -1,5 +1,5 @@
 -- What a document of the program answers by, and what is open with it.
-use Rattle.std.specs.Prelude.{ℕ, [], Option, Some, None}
+use Rattle.std.specs.Prelude.{[], Option, Some, None}
 use Rattle.text_pos.specs.declared.limits.Limits.{Limits}
 use Rattle.line_defs.specs.Frames.{start_of}
 use Rattle.rule_graph.specs.Graphs.{table_in}

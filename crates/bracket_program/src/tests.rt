@@ -84,7 +84,7 @@ fn run_counted<L: Ledger, M: Ledger, S: Source, K: Sink>(
     run(alloc, words, files, script, sink, &mut steps, &mut marks)
 }
 
-const CASES: [Case<'static>; 25] = [
+const CASES: [Case<'static>; 27] = [
     // An empty file is one empty line.
     Case {
         words: &["text"],
@@ -250,6 +250,21 @@ const CASES: [Case<'static>; 25] = [
         script: b"",
         wrote: b"",
         status: Status::Words,
+    },
+    Case {
+        words: &["--nesting", "text"],
+        text: Some(b"a"),
+        script: b"",
+        wrote: b"",
+        status: Status::Words,
+    },
+    // Options before the name, a value behind `=`, and a name behind `--`.
+    Case {
+        words: &["--nesting", "0001", "--tab=8", "--", "text"],
+        text: Some(b"(()"),
+        script: b"{\"brackets\":[0,0]}\n",
+        wrote: b"{\"opened\":1,\"unread\":0}\n{\"brackets\":[[0,0,1,0,0,0],[0,2,3,0,0,0]]}\n",
+        status: Status::Done,
     },
     // A tab of one column.
     Case {

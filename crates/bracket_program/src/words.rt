@@ -1,5 +1,5 @@
 ghost use Rattle.std.specs.Prelude.{◌≡◌, ◌≤◌, ℕ, map, option_map, string_bytes, Some, None, if◌then◌else◌};
-ghost use Rattle.session_defs.specs.Words.{request_of, request_with, is_plain, is_digit, is_number, is_name_or_none, is_within, limits_in, no_options, number_or, once, value_of, with_option, with_options};
+ghost use Rattle.session_defs.specs.Words.{asked_for, request_of, request_with, is_plain, is_digit, is_number, is_name_or_none, is_within, limits_in, no_options, number_or, once, parted, plain_words, said, value_of, with_option, with_text};
 
 use session_defs::{
     LEAST_BUDGET, LEAST_LONG, LEAST_NESTING, LEAST_TAB, MOST_BUDGET, MOST_DIGITS, MOST_LONG,
@@ -31,9 +31,10 @@ impl<'a> Model for Request<'a> {
     } };
 }
 
-/// The values of the options, as far as they are there.
+/// The name of the text and the values of the options, as far as they are there.
 #[derive(Drop)]
 struct Options<'a> {
+    text: Option<&'a str>,
     grammar: Option<&'a str>,
     brackets: Option<&'a str>,
     nesting: Option<&'a str>,
@@ -49,6 +50,7 @@ impl<'a> Model for Options<'a> {
     ghost Value = { Given };
 
     ghost view = { λ o. record {
+      text = option_map (λ value. value.now) o.text;
       grammar = option_map (λ value. value.now) o.grammar;
       brackets = option_map (λ value. value.now) o.brackets;
       nesting = option_map (λ value. value.now) o.nesting;
@@ -63,28 +65,84 @@ pub fn read_words(words: &[String]) -> Option<Request<'_>>
     ensures { result ≡ request_of (map string_bytes words.now) }
 {
     match words {
-        [_, name, options @ ..] => request_with(name.as_str(), options_in(options)?),
+        [_, said_words @ ..] => asked_for(said(said_words)?),
         _ => None,
     }
 }
 
-/// The options that these words give, two by two.
-fn options_in(words: &[String]) -> Option<Options<'_>>
-    ensures { result ≡ with_options no_options (map string_bytes words.now) }
+/// What words say, one after the other.
+fn said(words: &[String]) -> Option<Options<'_>>
+    ensures { result ≡ said no_options (map string_bytes words.now) }
 {
     let mut given = no_options();
     let mut left = words;
-    while let [option, value, more @ ..] = left {
-        given = with_option(given, option.as_str(), value.as_str())?;
+    while let [word, more @ ..] = left {
+        let word = word.as_str();
+        if word == "--" {
+            return plain_words(given, more);
+        }
+        if is_plain(word) {
+            given = with_text(given, word)?;
+            left = more;
+        } else if let Some((option, value)) = parted(word) {
+            given = with_option(given, option, value)?;
+            left = more;
+        } else {
+            let [value, rest @ ..] = more else {
+                return None;
+            };
+            given = with_next(given, word, value.as_str())?;
+            left = rest;
+        }
+    }
+    Some(given)
+}
+
+/// Behind `--` all words are plain.
+fn plain_words<'a>(given: Options<'a>, words: &'a [String]) -> Option<Options<'a>>
+    ensures { result ≡ plain_words given.entry (map string_bytes words.now) }
+{
+    let mut options = given;
+    let mut left = words;
+    while let [word, more @ ..] = left {
+        options = with_text(options, word.as_str())?;
         left = more;
     }
-    if left.is_empty() { Some(given) } else { None }
+    Some(options)
+}
+
+/// What stands before and behind the first `=` of a word.
+fn parted(word: &str) -> Option<(&str, &str)>
+    ensures { option_map (λ p. (p.0.now, p.1.now)) result ≡ parted word.now }
+{
+    word.split_once('=')
+}
+
+/// The options with one whose value is the next word, which is a plain one.
+fn with_next<'a>(given: Options<'a>, option: &str, value: &'a str) -> Option<Options<'a>>
+    ensures { result ≡ (if is_plain value.now then with_option given.entry option.now value.now else None) }
+{
+    if is_plain(value) {
+        with_option(given, option, value)
+    } else {
+        None
+    }
+}
+
+/// The options with the name of the text, which has none yet.
+fn with_text<'a>(given: Options<'a>, word: &'a str) -> Option<Options<'a>>
+    ensures { result ≡ with_text given.entry word.now }
+{
+    let mut options = given;
+    options.text = once(options.text, word)?;
+    Some(options)
 }
 
 fn no_options<'a>() -> Options<'a>
     ensures { result ≡ no_options }
 {
     Options {
+        text: None,
         grammar: None,
         brackets: None,
         nesting: None,
@@ -127,11 +185,18 @@ fn once<'a>(earlier: Option<&'a str>, value: &'a str) -> Option<Option<&'a str>>
     }
 }
 
+fn asked_for(given: Options<'_>) -> Option<Request<'_>>
+    ensures { result ≡ asked_for given.entry }
+{
+    let name = given.text?;
+    request_with(name, given)
+}
+
 /// What a name and options ask for.
 fn request_with<'a>(name: &'a str, given: Options<'a>) -> Option<Request<'a>>
     ensures { result ≡ request_with name.now given.entry }
 {
-    if !is_plain(name) || !is_name_or_none(given.grammar) || !is_name_or_none(given.brackets) {
+    if name.is_empty() || !is_name_or_none(given.grammar) || !is_name_or_none(given.brackets) {
         return None;
     }
     Some(Request {
@@ -161,16 +226,16 @@ fn limits_in(given: Options<'_>) -> Option<Limits>
 fn is_plain(word: &str) -> bool
     ensures { result ≡ is_plain word.now }
 {
-    word == "-" || (!word.is_empty() && word.as_bytes()[0] != b'-')
+    word == "-" || !word.starts_with('-')
 }
 
-/// A file that isn't named, or one that has a name.
+/// No name is empty.
 fn is_name_or_none(word: Option<&str>) -> bool
     ensures { result ≡ is_name_or_none (option_map (λ w. w.now) word.entry) }
 {
     match word {
         None => true,
-        Some(name) => is_plain(name),
+        Some(name) => !name.is_empty(),
     }
 }
 

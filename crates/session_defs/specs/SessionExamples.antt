@@ -1,7 +1,7 @@
 -- Worked examples of script lines, replies, command lines and whole sessions. Each holds by computing alone,
 -- but for the one on lines that are too long, of which no list of that length is written out.
 use Rattle.std.specs.Prelude.{◌≡◌, ℕ, List, [], ◌∷◌, ◌++◌, length, map, replicate, nat_lt, true, false}
-use Rattle.std.specs.Prelude.{if◌then◌else◌, codes, refl, Some, None, is_some}
+use Rattle.std.specs.Prelude.{if◌then◌else◌, codes, refl, Some, None, is_some, option_map}
 use Prim.Native.String.{String}
 use Rattle.std.proofs.Common.{ap}
 use Rattle.std.specs.Str.{chars, is_utf8}
@@ -174,6 +174,19 @@ pub all_options : request_of
     })
 all_options = refl
 
+-- options before the name, values behind `=`, and a name behind `--`, which may begin with `-`
+pub other_forms : map request_of
+    ((codes "brackets" ∷ codes "--nesting" ∷ codes "0200" ∷ codes "--" ∷ codes "-t" ∷ []) ∷ (codes "brackets" ∷ codes "--nesting=7" ∷ codes "t" ∷ [])
+    ∷ (codes "brackets" ∷ codes "t" ∷ codes "--nesting=7" ∷ codes "--" ∷ []) ∷ [])
+    ≡ Some (text_alone (codes "-t") 200) ∷ Some (text_alone (codes "t") 7) ∷ Some (text_alone (codes "t") 7) ∷ []
+other_forms = refl
+
+-- behind `=` a name may begin with `-`, and a second `=` is part of it
+pub names_behind_an_equals_sign : map (option_map (λ r. r.grammar))
+    (map request_of ((codes "brackets" ∷ codes "t" ∷ codes "--grammar=-g" ∷ []) ∷ (codes "brackets" ∷ codes "--grammar=a=b" ∷ codes "t" ∷ []) ∷ []))
+    ≡ Some (Some (codes "-g")) ∷ Some (Some (codes "a=b")) ∷ []
+names_behind_an_equals_sign = refl
+
 -- an option twice, even with one value; an unknown one; one without a value; a file that begins with `-`, and an empty one
 pub options_that_are_refused : map request_of
     ((codes "brackets" ∷ codes "t" ∷ codes "--tab" ∷ codes "4" ∷ codes "--tab" ∷ codes "4" ∷ [])
@@ -202,13 +215,12 @@ pub words_without_a_name : map request_of
     ≡ replicate 6 None
 words_without_a_name = refl
 
--- limits of 0, 301, of no digits, of other characters and of eleven digits, no limit, an option before the name, and
--- one with `=`
+-- limits of 0, 301, of no digits, of other characters and of eleven digits, no limit, and options with nothing behind `=`
 pub words_without_a_limit : map request_of
     ((codes "brackets" ∷ codes "t" ∷ codes "--nesting" ∷ codes "0" ∷ []) ∷ (codes "brackets" ∷ codes "t" ∷ codes "--nesting" ∷ codes "301" ∷ [])
     ∷ (codes "brackets" ∷ codes "t" ∷ codes "--nesting" ∷ [] ∷ []) ∷ (codes "brackets" ∷ codes "t" ∷ codes "--nesting" ∷ codes "+5" ∷ [])
     ∷ (codes "brackets" ∷ codes "t" ∷ codes "--nesting" ∷ codes "00000000200" ∷ []) ∷ (codes "brackets" ∷ codes "t" ∷ codes "--nesting" ∷ [])
-    ∷ (codes "brackets" ∷ codes "--nesting" ∷ codes "4" ∷ codes "t" ∷ []) ∷ (codes "brackets" ∷ codes "t" ∷ codes "--grammar=" ∷ []) ∷ [])
+    ∷ (codes "brackets" ∷ codes "t" ∷ codes "--nesting=" ∷ []) ∷ (codes "brackets" ∷ codes "t" ∷ codes "--grammar=" ∷ []) ∷ [])
     ≡ replicate 8 None
 words_without_a_limit = refl
 

@@ -1,8 +1,8 @@
--- The command line. It is this project's own: the name of a text file, and behind it options in any order, each with a
--- value and each at most once.
-use Rattle.std.specs.Prelude.{ℕ, ◌+◌, ◌-◌, ◌*◌, ◌&&◌, ◌||◌, List, [], ◌∷◌, length, codes, fold, Bool, true, not}
+-- The command line. It is this project's own: the name of a text file and options, in any order. An option has its value
+-- behind `=` in the same word, or in the next word; each comes at most once. Behind the word `--` all words are names.
+use Rattle.std.specs.Prelude.{ℕ, ◌+◌, ◌-◌, ◌*◌, ◌==◌, ◌&&◌, ◌||◌, List, [], ◌∷◌, length, codes, fold, Bool, true, not}
 use Rattle.std.specs.Prelude.{nat_lt, nat_le, if◌then◌else◌, Option, Some, None, option_and_then, option_map}
-use Rattle.std.specs.List.{list_all}
+use Rattle.std.specs.List.{after_first, before_first, list_all, position_or_len}
 use Rattle.std.specs.Str.{bytes_eq}
 use Rattle.text_pos.specs.declared.limits.Limits.{Limits}
 use Rattle.text_defs.specs.Text.{begins_with}
@@ -30,9 +30,17 @@ text_alone name nesting = record { text = name; grammar = None; brackets = None;
 
 -- ---- single words
 
--- a word that is `-`, or isn't empty and begins with no `-`
+-- a word that is `-`, or begins with no `-`
 abbrev pub is_plain : List ℕ → Bool
-is_plain word = bytes_eq word (codes "-") || (nat_lt 0 (length word) && not (begins_with 45 word))
+is_plain word = bytes_eq word (codes "-") || not (begins_with 45 word)
+
+abbrev pub is_equals : ℕ → Bool
+is_equals c = c == 61
+
+-- what stands before and behind the first `=` of a word, where it has one
+abbrev pub parted : List ℕ → Option (List ℕ × List ℕ)
+parted word = if nat_lt (position_or_len is_equals word) (length word)
+    then Some (before_first is_equals word, after_first is_equals word) else None
 
 abbrev pub is_digit : ℕ → Bool
 is_digit c = nat_le 48 c && nat_le c 57
@@ -48,10 +56,11 @@ value_of word = fold (λ n c. 10 * n + (c - 48)) 0 word
 abbrev pub is_within : ℕ → ℕ → List ℕ → Bool
 is_within least most word = is_number word && (nat_le least (value_of word) && nat_le (value_of word) most)
 
--- ---- options
+-- ---- names and options
 
--- the values of the options, as far as they are there
+-- the name of the text and the values of the options, as far as they are there
 pub record Options : Type 0 where
+  pub text : Option (List ℕ)
   pub grammar : Option (List ℕ)
   pub brackets : Option (List ℕ)
   pub nesting : Option (List ℕ)
@@ -60,12 +69,23 @@ pub record Options : Type 0 where
   pub tab : Option (List ℕ)
 
 abbrev pub no_options : Options
-no_options = record { grammar = None; brackets = None; nesting = None; steps = None; long = None; tab = None }
+no_options = record {
+  text = None;
+  grammar = None;
+  brackets = None;
+  nesting = None;
+  steps = None;
+  long = None;
+  tab = None;
+}
 
--- a value for an option that has none yet
+-- a value for what has none yet
 abbrev pub once : Option (List ℕ) → List ℕ → Option (Option (List ℕ))
 once None value = Some (Some value)
 once (Some earlier) value = None
+
+abbrev pub with_text : Options → List ℕ → Option Options
+with_text given word = option_map (λ v. record given { text = v }) (once given.text word)
 
 -- the options with one more
 abbrev pub with_option : Options → (option : List ℕ) → (value : List ℕ) → Option Options
@@ -78,18 +98,43 @@ with_option given option value =
     else (if bytes_eq option (codes "--tab") then option_map (λ v. record given { tab = v }) (once given.tab value)
     else None)))))
 
--- the options with those that these words give, two by two
-abbrev pub with_options : Options → List (List ℕ) → Option Options
-with_options given [] = Some given
-with_options given (option ∷ []) = None
-with_options given (option ∷ value ∷ more) = option_and_then (λ g. with_options g more) (with_option given option value)
+-- ---- words, one after the other
+
+-- behind `--` all words are plain
+abbrev pub plain_words : Options → List (List ℕ) → Option Options
+plain_words given [] = Some given
+plain_words given (word ∷ words) = option_and_then (λ g. plain_words g words) (with_text given word)
+
+-- An option of which this word is the first: with its value behind `=`, or with the next word, which is a plain one. What
+-- stands behind is told for either.
+abbrev pub with_value : Options → (word next : List ℕ) → Option (List ℕ × List ℕ) → (with_next : Options → Option Options)
+    → (behind : Options → Option Options) → Option Options
+with_value given word next (Some parts) with_next behind = option_and_then with_next (with_option given parts.0 parts.1)
+with_value given word next None with_next behind =
+    if is_plain next then option_and_then behind (with_option given word next) else None
+
+-- the same of the last word
+abbrev pub with_value_at_last : Options → Option (List ℕ × List ℕ) → Option Options
+with_value_at_last given None = None
+with_value_at_last given (Some parts) = with_option given parts.0 parts.1
+
+-- what words say
+abbrev pub said : Options → List (List ℕ) → Option Options
+said given [] = Some given
+said given (word ∷ []) =
+    if bytes_eq word (codes "--") then Some given
+    else (if is_plain word then with_text given word else with_value_at_last given (parted word))
+said given (word ∷ next ∷ words) =
+    if bytes_eq word (codes "--") then plain_words given (next ∷ words)
+    else (if is_plain word then option_and_then (λ g. said g (next ∷ words)) (with_text given word)
+    else with_value given word next (parted word) (λ g. said g (next ∷ words)) (λ g. said g words))
 
 -- ---- values
 
--- a file's name where it is there; whether it is one
+-- no name is empty
 abbrev pub is_name_or_none : Option (List ℕ) → Bool
 is_name_or_none None = true
-is_name_or_none (Some word) = is_plain word
+is_name_or_none (Some word) = nat_lt 0 (length word)
 
 -- a number from `least` to `most`, or where it isn't there the usual one
 abbrev pub number_or : (usual : ℕ) → (least : ℕ) → (most : ℕ) → Option (List ℕ) → Option ℕ
@@ -109,12 +154,14 @@ limits_in given =
 -- what a name and options ask for
 abbrev pub request_with : List ℕ → Options → Option Request
 request_with name given =
-    if is_plain name && (is_name_or_none given.grammar && is_name_or_none given.brackets)
+    if nat_lt 0 (length name) && (is_name_or_none given.grammar && is_name_or_none given.brackets)
     then option_map (λ limits. record { text = name; grammar = given.grammar; brackets = given.brackets; limits = limits })
     (limits_in given) else None
+
+abbrev pub asked_for : Options → Option Request
+asked_for given = option_and_then (λ name. request_with name given) given.text
 
 -- what the words ask for, of which the first is the program's name; None where they are no command line
 abbrev pub request_of : List (List ℕ) → Option Request
 request_of [] = None
-request_of (program ∷ []) = None
-request_of (program ∷ name ∷ words) = option_and_then (request_with name) (with_options no_options words)
+request_of (program ∷ words) = option_and_then asked_for (said no_options words)

@@ -12,11 +12,25 @@ use tree_queries::{Twin, around, jump, level_at, match_at};
 /// How many places are asked.
 const PLACES: u32 = 20_000;
 
+/// Whether places lie one behind the other, or scattered.
+#[derive(Clone, Copy)]
+struct Asked {
+    lines: u32,
+    scattered: bool,
+}
+
 /// A place for each number, in all parts of a text.
-fn place(number: u32, lines: u32) -> Pos {
+fn place(number: u32, asked: Asked) -> Pos {
     let state = number.wrapping_mul(2_654_435_761);
+    let line = if asked.lines == 0 {
+        0
+    } else if asked.scattered {
+        (state >> 7) % asked.lines
+    } else {
+        (number / 8) % asked.lines
+    };
     Pos {
-        line: if lines == 0 { 0 } else { (state >> 7) % lines },
+        line,
         col: (state >> 3) % 64,
     }
 }
@@ -30,42 +44,42 @@ fn start_of(twin: Option<Twin>) -> u64 {
     }
 }
 
-fn levels(tree: &Tree, lines: u32) -> u64
+fn levels(tree: &Tree, asked: Asked) -> u64
     requires { IsPlaced (or_nothing tree.now.root) }
 {
     let mut sum = 0u64;
     for number in 0..PLACES {
-        sum = sum.wrapping_add(u64::from(level_at(tree, place(number, lines))));
+        sum = sum.wrapping_add(u64::from(level_at(tree, place(number, asked))));
     }
     sum
 }
 
-fn matches(tree: &Tree, lines: u32) -> u64
+fn matches(tree: &Tree, asked: Asked) -> u64
     requires { IsPlaced (or_nothing tree.now.root) }
 {
     let mut sum = 0u64;
     for number in 0..PLACES {
-        sum = sum.wrapping_add(start_of(match_at(tree, place(number, lines))));
+        sum = sum.wrapping_add(start_of(match_at(tree, place(number, asked))));
     }
     sum
 }
 
-fn arounds(tree: &Tree, lines: u32) -> u64
+fn arounds(tree: &Tree, asked: Asked) -> u64
     requires { IsPlaced (or_nothing tree.now.root) }
 {
     let mut sum = 0u64;
     for number in 0..PLACES {
-        sum = sum.wrapping_add(start_of(around(tree, place(number, lines))));
+        sum = sum.wrapping_add(start_of(around(tree, place(number, asked))));
     }
     sum
 }
 
-fn jumps(tree: &Tree, lines: u32) -> u64
+fn jumps(tree: &Tree, asked: Asked) -> u64
     requires { IsPlaced (or_nothing tree.now.root) }
 {
     let mut sum = 0u64;
     for number in 0..PLACES {
-        sum = sum.wrapping_add(match jump(tree, place(number, lines)) {
+        sum = sum.wrapping_add(match jump(tree, place(number, asked)) {
             Some(at) => u64::from(at.line).saturating_add(u64::from(at.col)),
             None => 1,
         });
@@ -73,45 +87,31 @@ fn jumps(tree: &Tree, lines: u32) -> u64
     sum
 }
 
-/// Each question at all places.
+fn took(rt: &HostRuntime, start: u64, timed: bool) -> Result<Option<u64>> {
+    let now = nanoseconds(rt)?;
+    Ok(timed.then_some(now.saturating_sub(start)))
+}
+
+/// Each question at places one behind the other, and then at scattered places.
 pub(crate) fn ask_all(rt: &HostRuntime, tree: &Tree, text: &Text, timed: bool) -> Result<()>
     requires { IsPlaced (or_nothing tree.now.root) }
 {
     let lines = text.lines();
-    let start = nanoseconds(rt)?;
-    let sum = levels(tree, lines);
-    let second = nanoseconds(rt)?;
-    tell(
-        rt,
-        "level",
-        sum,
-        timed.then_some(second.saturating_sub(start)),
-    )?;
-    let start = nanoseconds(rt)?;
-    let sum = matches(tree, lines);
-    let second = nanoseconds(rt)?;
-    tell(
-        rt,
-        "match",
-        sum,
-        timed.then_some(second.saturating_sub(start)),
-    )?;
-    let start = nanoseconds(rt)?;
-    let sum = arounds(tree, lines);
-    let second = nanoseconds(rt)?;
-    tell(
-        rt,
-        "around",
-        sum,
-        timed.then_some(second.saturating_sub(start)),
-    )?;
-    let start = nanoseconds(rt)?;
-    let sum = jumps(tree, lines);
-    let second = nanoseconds(rt)?;
-    tell(
-        rt,
-        "jump",
-        sum,
-        timed.then_some(second.saturating_sub(start)),
-    )
+    for scattered in [false, true] {
+        let asked = Asked { lines, scattered };
+        println!(rt; "scattered {}", u64::from(scattered))?;
+        let start = nanoseconds(rt)?;
+        let sum = levels(tree, asked);
+        tell(rt, "level", sum, took(rt, start, timed)?)?;
+        let start = nanoseconds(rt)?;
+        let sum = matches(tree, asked);
+        tell(rt, "match", sum, took(rt, start, timed)?)?;
+        let start = nanoseconds(rt)?;
+        let sum = arounds(tree, asked);
+        tell(rt, "around", sum, took(rt, start, timed)?)?;
+        let start = nanoseconds(rt)?;
+        let sum = jumps(tree, asked);
+        tell(rt, "jump", sum, took(rt, start, timed)?)?;
+    }
+    Ok(())
 }

@@ -1,6 +1,6 @@
 -- Cut openers and the texts that hold them.
-use Rattle.std.proofs.Common.{◌≡◌, ℕ, ◌+◌, ◌<◌, ◌≤◌, ◌↔◌, ◌⊎◌, nat_le, List, [], ◌∷◌, ◌++◌, length, Bool, true, false}
-use Rattle.std.proofs.Common.{◌||◌, if◌then◌else◌}
+use Rattle.std.proofs.Common.{◌≡◌, ℕ, ◌+◌, ◌<◌, ◌≤◌, ◌⊎◌, nat_le, List, [], ◌∷◌, ◌++◌, length, Bool, true, false}
+use Rattle.std.proofs.Common.{if◌then◌else◌}
 use Rattle.text_pos.specs.KindSet.{has_kind}
 use Rattle.std.proofs.Common.{refl, sym, ap, ◌∙◌, subst, arith, append_assoc, inl, inr}
 use Rattle.std.proofs.lemmas.Bool.Decides.{nat_tests}
@@ -11,15 +11,14 @@ use Rattle.pairing_defs.specs.declared.Role.{Role}
 use Rattle.pairing_defs.specs.declared.Role.TheVariants.{Opener, Closer}
 use Rattle.pairing_defs.specs.declared.Mark.{Mark}
 use Rattle.pairing_defs.specs.Pairing.{Entry, Open, from_last, open_by, open_after, nothing_open}
-use Rattle.tree_defs.specs.Tree.{Tree}
 use Rattle.tree_defs.specs.Items.{Items, end, text, lone, pair, unclosed, stray, items_of, behind, left_by, missed_in}
 use Rattle.tree_defs.specs.Items.{IsOpener, AreOpeners, AreCut, IsWithin, AreWithin, Stands}
 use Rattle.tree_defs.specs.Reuse.{Clear, Walked}
 use Rattle.tree_defs.specs.Rows.{start}
-use Rattle.tree_defs.specs.Cuts.{cut_by, cut_from, cut_openers, Piece, texts_from, texts_of, IsIn, AreSome}
+use Rattle.tree_defs.specs.Cuts.{cut_by, cut_from, Piece, texts_from, IsIn, AreSome}
 use Rattle.tree_defs.specs.Cuts.{LiesIn, IsHeld, Holds, CutLaw}
-use Rattle.tree_defs.proofs.Steps.{none_taken, taken_behind, opener_open, lone_open, closer_open}
-use Rattle.tree_defs.proofs.Walk.{or_left, or_right, clear_less, walks, no_cuts, lone_clear, deeper}
+use Rattle.tree_defs.proofs.Steps.{none_taken, taken_behind}
+use Rattle.tree_defs.proofs.Walk.{or_left, or_right, clear_less, walks, no_cuts, lone_clear}
 
 -- ---- membership
 in_front : {X : Type 0} (x : X) (xs ys : List X) → IsIn x xs → IsIn x (xs ++ ys)

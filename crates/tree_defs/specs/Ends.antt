@@ -1,5 +1,5 @@
 -- Where the nodes of a tree end.
-use Rattle.std.specs.Prelude.{◌≡◌, ℕ, ◌+◌, ◌<◌, ◌^◌, List, Bool, true, false, ◌&&◌, nat_lt, nat_le, slice_get, Option}
+use Rattle.std.specs.Prelude.{◌≡◌, ℕ, ◌<◌, ◌^◌, List, Bool, true, false, ◌&&◌, nat_lt, nat_le, slice_get, Option}
 use Rattle.std.specs.Prelude.{Some, None}
 use Rattle.text_pos.specs.declared.length.Length.{Length}
 use Rattle.text_pos.specs.Lengths.{plus}

@@ -1,21 +1,20 @@
 -- Answers over rows that a tree has are those over its brackets.
-use Rattle.std.proofs.Common.{◌≡◌, ℕ, ◌&&◌, List, [], ◌∷◌, ◌++◌, length, map, filter, reverse, Bool, true, false, not}
+use Rattle.std.proofs.Common.{◌≡◌, ℕ, List, [], ◌∷◌, length, map, filter, reverse, Bool, true, false}
 use Rattle.std.proofs.Common.{Option, Some, None, refl, sym, ap, ◌∙◌, subst, option_and_then, append-nil}
 use Rattle.std.specs.List.{find}
-use Rattle.std.specs.Option.{option_map, option_or, is_some}
+use Rattle.std.specs.Option.{option_map, option_or}
 use Rattle.std.proofs.lemmas.List.{reverse-append}
 use Rattle.text_pos.specs.declared.length.Pos.{Pos}
 use Rattle.pairing_defs.specs.declared.Row.{Row}
 use Rattle.answer_defs.specs.declared.answer.MarkAt.{MarkAt}
-use Rattle.answer_defs.specs.declared.pair_answer.Twin.{Twin}
-use Rattle.answer_defs.specs.PairAnswers.{opens, partner_of, mark_at, encloses, encloses_closed, level_in, around_in}
+use Rattle.answer_defs.specs.PairAnswers.{partner_of, mark_at, encloses, encloses_closed, level_in, around_in}
 use Rattle.answer_defs.specs.PairAnswers.{twin, twin_of, find_last, stands_at, ends_at, touched, match_in, starts_from, reaches_lines, next_start}
 use Rattle.answer_defs.specs.PairAnswers.{has_guide, pair_row, guide_row, pairs_in, guides_of_line}
 use Rattle.answer_defs.specs.Answers.{bracket_row, is_in_lines, brackets_in}
 use Rattle.tree_defs.specs.Tree.{Tree}
 use Rattle.tree_defs.specs.Items.{items_of}
 use Rattle.tree_defs.specs.Items as items
-use Rattle.tree_defs.specs.Rows.{start, tree_rows, AreFull}
+use Rattle.tree_defs.specs.Rows.{start}
 use Rattle.tree_queries.specs.Known.{Known, known}
 use Rattle.tree_queries.specs.Answers.{by_row, twin_known, twin_with, level_known, around_known, touches, match_known, next_known}
 use Rattle.tree_queries.specs.Answers.{brackets_known, pair_known, pairs_known, guides_known}

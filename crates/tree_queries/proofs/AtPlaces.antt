@@ -1,20 +1,17 @@
 -- The bracket at a place, node by node.
-use Rattle.std.proofs.Common.{◌≡◌, ℕ, ◌+◌, ◌&&◌, ◌==◌, if◌then◌else◌, List, [], ◌∷◌, ◌++◌, Bool, true, false, not}
-use Rattle.std.proofs.Common.{Option, Some, None, refl, sym, ap, ◌∙◌, subst, arith, option_and_then, append-nil}
+use Rattle.std.proofs.Common.{◌≡◌, ℕ, if◌then◌else◌, List, [], ◌∷◌, ◌++◌, Bool, true, false}
+use Rattle.std.proofs.Common.{Option, Some, None, refl, sym, ap, ◌∙◌, arith, option_and_then}
 use Rattle.std.proofs.lemmas.Bool.Decides.{nat_tests}
 use Rattle.std.specs.List.{find}
 use Rattle.std.specs.Option.{option_map, option_or}
 use Rattle.std.proofs.lemmas.List.Folds.{find-append}
 use Rattle.text_pos.specs.declared.length.Length.{Length}
 use Rattle.text_pos.specs.declared.length.Pos.{Pos}
-use Rattle.text_pos.specs.declared.kinds.Kinds.{Kinds}
-use Rattle.text_pos.specs.Lengths.{plus}
 use Rattle.answer_defs.specs.declared.answer.MarkAt.{MarkAt}
-use Rattle.answer_defs.specs.declared.pair_answer.Twin.{Twin}
-use Rattle.tree_defs.specs.Tree.{Tree, Lone}
-use Rattle.tree_queries.specs.Known.{Known, known, piece, end_inside}
+use Rattle.tree_defs.specs.Tree.{Tree}
+use Rattle.tree_queries.specs.Known.{Known, known, piece}
 use Rattle.tree_queries.specs.Answers.{by_row, touches, touched_of, mark_touches, twin_touched, twin_known, match_known}
-use Rattle.tree_queries.specs.Parts.{Each, IsEarly, IsLate, Narrows, IsPairAt, IsLoneAt}
+use Rattle.tree_queries.specs.Parts.{IsEarly, IsLate, Narrows, IsPairAt, IsLoneAt}
 use Rattle.tree_queries.specs.declared.parts.Part.{Part}
 use Rattle.tree_queries.specs.declared.parts.PairAt.{PairAt}
 use Rattle.tree_queries.specs.declared.places.Touched.{Touched}

@@ -1,25 +1,24 @@
 -- The children of a list and the parts of a pair, at their places.
-use Rattle.std.proofs.Common.{◌≡◌, ℕ, ◌+◌, ◌<◌, ◌≤◌, ◌^◌, List, [], ◌∷◌, ◌++◌, max, Bool, true, false, not, Option, Some, None}
+use Rattle.std.proofs.Common.{◌≡◌, ℕ, List, [], ◌++◌, Bool, true, false, not, Option, Some, None}
 use Rattle.std.proofs.Common.{refl, sym, ap, ◌∙◌, subst, arith, append_assoc, append-nil}
 use Rattle.std.specs.Option.{option_map}
 use Rattle.text_pos.specs.declared.length.Length.{Length}
 use Rattle.text_pos.specs.declared.length.Pos.{Pos}
 use Rattle.text_pos.specs.Lengths.{plus}
 use Rattle.text_defs.specs.Place.{is_before}
-use Rattle.tree_defs.specs.Tree.{Tree, Nothing, Text, Bracket, Lone, Pair, Two, Three, depth}
+use Rattle.tree_defs.specs.Tree.{Tree, Nothing, Text, Bracket, Lone, Pair, Two, Three}
 use Rattle.tree_defs.specs.Shape.{length_of}
 use Rattle.tree_defs.specs.Rows.{place}
 use Rattle.tree_defs.specs.Ends.{IsInLine, fits}
 use Rattle.tree_defs.proofs.Lengths.{plus_assoc, plus_none}
 use Rattle.bracket_ast.specs.Shapes.{or_nothing, no_nothing, closer_of}
 use Rattle.bracket_ast.specs.Sorts.{sort_of}
-use Rattle.bracket_ast.specs.Weight.{weight}
 use Rattle.bracket_ast.specs.declared.node.Sort.TheVariants as sort
-use Rattle.tree_queries.specs.Known.{Known, known, end_inside, piece}
+use Rattle.tree_queries.specs.Known.{known, end_inside, piece}
 use Rattle.tree_queries.specs.Parts.{Placed, Each, IsEarly, IsLate, Narrows, IsCloserAt, left_of}
 use Rattle.tree_queries.specs.declared.parts.Part.{Part}
 use Rattle.tree_queries.proofs.Lists.{each_more, each_append}
-use Rattle.tree_queries.proofs.Order.{up_to_trans, before_trans, trans_before, up_to_plus, up_to_itself}
+use Rattle.tree_queries.proofs.Order.{up_to_trans, trans_before, up_to_plus}
 use Rattle.tree_queries.proofs.Spans.{spans, early, late, early_over, late_over, closed_end}
 
 -- where a node ends is of 32 bits

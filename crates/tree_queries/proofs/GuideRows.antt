@@ -1,7 +1,7 @@
 -- The guides of a line, node by node.
 use Rattle.std.proofs.Common.{◌≡◌, ℕ, suc, ◌+◌, ◌-◌, ◌<◌, ◌&&◌, nat_le, nat_lt, if◌then◌else◌, List, [], ◌∷◌, ◌++◌, length}
-use Rattle.std.proofs.Common.{map, filter, flat_map, Bool, true, false, not, Option, Some, None, refl, sym, ap, ◌∙◌, arith}
-use Rattle.std.proofs.Common.{append_assoc, append-nil, min}
+use Rattle.std.proofs.Common.{map, filter, flat_map, Bool, true, false, Option, Some, None, refl, sym, ap, ◌∙◌, arith}
+use Rattle.std.proofs.Common.{append_assoc, min}
 use Rattle.std.specs.List.{range_with_len}
 use Rattle.std.specs.Option.{is_some}
 use Rattle.std.proofs.lemmas.Bool.Decides.{nat_tests}
@@ -9,18 +9,16 @@ use Rattle.std.proofs.lemmas.List.{map-append}
 use Rattle.std.proofs.lemmas.List.Elements.{filter-append}
 use Rattle.text_pos.specs.declared.length.Length.{Length}
 use Rattle.text_pos.specs.declared.length.Pos.{Pos}
-use Rattle.text_defs.specs.Place.{is_before}
 use Rattle.pairing_defs.specs.declared.Row.{Row}
 use Rattle.answer_defs.specs.declared.answer.MarkAt.{MarkAt}
-use Rattle.answer_defs.specs.declared.pair_answer.GuideRow.{GuideRow}
 use Rattle.answer_defs.specs.PairAnswers.{end_of, is_opener, is_up_to, encloses, has_guide, guide_row, indentation_of}
 use Rattle.answer_defs.specs.PairAnswers.{guides_of_line, guides_in}
 use Rattle.tree_defs.specs.Tree.{Tree}
-use Rattle.tree_defs.specs.Rows.{place, start}
+use Rattle.tree_defs.specs.Rows.{start}
 use Rattle.tree_queries.specs.Known.{Known, known}
 use Rattle.tree_queries.specs.Answers.{by_row, guides_known}
 use Rattle.tree_queries.specs.Told.{IsPlaced, HasRows}
-use Rattle.tree_queries.specs.Parts.{Each, Narrows, IsPairAt, pair_opener, pair_closers, opener_at, closers_at, guide_of, has_line}
+use Rattle.tree_queries.specs.Parts.{Each, Narrows, IsPairAt, pair_opener, pair_closers, opener_at, closers_at, guide_of}
 use Rattle.tree_queries.specs.declared.parts.Part.{Part}
 use Rattle.tree_queries.specs.declared.parts.PairAt.{PairAt}
 use Rattle.tree_queries.proofs.Lists.{each_more, each_append, mid_filter, none_filter, Fails}

@@ -1,5 +1,5 @@
 -- What a test finds in a list between two that it finds nothing in.
-use Rattle.std.proofs.Common.{◌≡◌, ◌&&◌, Bool, true, false, List, [], ◌∷◌, ◌++◌, length, filter, reverse, refl, sym}
+use Rattle.std.proofs.Common.{◌≡◌, Bool, false, List, [], ◌∷◌, ◌++◌, filter, reverse, refl}
 use Rattle.std.proofs.Common.{ap, ◌∙◌, Option, Some, None, append-nil}
 use Rattle.std.specs.List.{find}
 use Rattle.std.specs.Option.{option_or}

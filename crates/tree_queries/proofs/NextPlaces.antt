@@ -1,5 +1,5 @@
 -- The next bracket, node by node.
-use Rattle.std.proofs.Common.{◌≡◌, ℕ, ◌+◌, ◌&&◌, if◌then◌else◌, List, [], ◌∷◌, ◌++◌, Bool, true, false, not, Option}
+use Rattle.std.proofs.Common.{◌≡◌, ℕ, ◌&&◌, if◌then◌else◌, List, [], ◌∷◌, ◌++◌, Bool, true, false, Option}
 use Rattle.std.proofs.Common.{Some, None, refl, sym, ap, ◌∙◌, arith}
 use Rattle.std.proofs.lemmas.Bool.Decides.{nat_tests}
 use Rattle.std.specs.List.{find}
@@ -16,7 +16,7 @@ use Rattle.tree_defs.specs.Shape.{length_of}
 use Rattle.tree_defs.specs.Rows.{place}
 use Rattle.tree_queries.specs.Known.{Known, known}
 use Rattle.tree_queries.specs.Answers.{by_row, next_known}
-use Rattle.tree_queries.specs.Parts.{Placed, Each, IsPairAt, IsLoneAt, left_of, pair_opener, pair_closers, opener_at}
+use Rattle.tree_queries.specs.Parts.{Placed, IsPairAt, IsLoneAt, left_of, pair_opener, pair_closers}
 use Rattle.tree_queries.specs.Parts.{closers_at, lone_known, start_of_mark, next_of}
 use Rattle.tree_queries.specs.declared.parts.PairAt.{PairAt}
 use Rattle.tree_queries.proofs.Lists.{each_more, none_find}

@@ -1,11 +1,10 @@
 -- Answers about a place, node by node.
 use Rattle.std.proofs.Common.{◌≡◌, ℕ, ◌+◌, ◌&&◌, if◌then◌else◌, List, [], ◌∷◌, ◌++◌, length, filter, reverse, Bool, true, false, not}
-use Rattle.std.proofs.Common.{Option, Some, None, refl, sym, ap, ◌∙◌, subst, arith, option_and_then, append-nil}
+use Rattle.std.proofs.Common.{Option, Some, None, refl, sym, ap, ◌∙◌, arith, option_and_then, append-nil}
 use Rattle.std.specs.List.{find}
 use Rattle.std.specs.Option.{option_map, option_or, is_some}
 use Rattle.std.proofs.lemmas.List.{reverse-append}
 use Rattle.std.proofs.lemmas.List.Folds.{find-append}
-use Rattle.std.proofs.lemmas.List.Elements.{filter-append}
 use Rattle.text_pos.specs.declared.length.Length.{Length}
 use Rattle.text_pos.specs.declared.length.Pos.{Pos}
 use Rattle.text_pos.specs.Lengths.{plus}
@@ -18,12 +17,12 @@ use Rattle.tree_defs.specs.Shape.{length_of}
 use Rattle.tree_defs.specs.Rows.{place}
 use Rattle.bracket_ast.specs.Shapes.{or_nothing, nows}
 use Rattle.tree_queries.specs.Known.{Known, known, piece, end_inside, opener_bracket, closer_bracket, number}
-use Rattle.tree_queries.specs.Answers.{by_row, span_at, twin_known, twin_with, level_known, around_known}
+use Rattle.tree_queries.specs.Answers.{by_row, span_at, twin_known, level_known, around_known}
 use Rattle.tree_queries.specs.Parts.{Placed, Each, IsEarly, IsLate, Narrows, IsPairAt}
 use Rattle.tree_queries.specs.declared.parts.Part.{Part}
 use Rattle.tree_queries.specs.declared.parts.PairAt.{PairAt}
-use Rattle.tree_queries.proofs.Lists.{each_more, each_append, mid_filter, mid_find, mid_last, none_filter, none_find}
-use Rattle.tree_queries.proofs.Lists.{Fails, or_none, each_reverse}
+use Rattle.tree_queries.proofs.Lists.{each_more, each_append, mid_filter, mid_last, none_filter, none_find}
+use Rattle.tree_queries.proofs.Lists.{Fails, each_reverse}
 use Rattle.tree_queries.proofs.Order.{in_line_end, not_after}
 use Rattle.tree_queries.proofs.Spans.{spans, early, late}
 use Rattle.tree_defs.specs.Ends.{IsInLine}

@@ -1,32 +1,27 @@
 -- The brackets of a pair, from what is read of it, and which brackets lie in lines.
-use Rattle.std.proofs.Common.{◌≡◌, ℕ, ◌+◌, ◌<◌, ◌≤◌, ◌&&◌, ◌||◌, nat_le, nat_lt, if◌then◌else◌, List, [], ◌∷◌, ◌++◌}
-use Rattle.std.proofs.Common.{map, filter, Bool, true, false, Option, Some, None, refl, sym, ap, ◌∙◌, subst, arith}
-use Rattle.std.proofs.Common.{append_assoc, append-nil, inl, inr}
+use Rattle.std.proofs.Common.{◌≡◌, ℕ, ◌&&◌, ◌||◌, nat_lt, List, [], ◌∷◌, ◌++◌}
+use Rattle.std.proofs.Common.{map, filter, Bool, true, false, Option, Some, None, refl, sym, ap, ◌∙◌, arith}
 use Rattle.std.specs.Option.{option_map}
 use Rattle.std.proofs.lemmas.Bool.Decides.{nat_tests}
 use Rattle.std.proofs.lemmas.List.{map-append}
 use Rattle.std.proofs.lemmas.List.Elements.{filter-append}
 use Rattle.text_pos.specs.declared.length.Length.{Length}
 use Rattle.text_pos.specs.declared.length.Pos.{Pos}
-use Rattle.text_pos.specs.declared.kinds.Kinds.{Kinds}
 use Rattle.text_pos.specs.Lengths.{plus}
-use Rattle.text_defs.specs.Place.{is_before}
 use Rattle.answer_defs.specs.declared.answer.MarkAt.{MarkAt}
-use Rattle.answer_defs.specs.declared.answer.BracketRow.{BracketRow}
-use Rattle.answer_defs.specs.declared.pair_answer.PairRow.{PairRow}
 use Rattle.answer_defs.specs.Answers.{is_in_lines}
-use Rattle.answer_defs.specs.PairAnswers.{end_of, reaches_lines, is_opener}
+use Rattle.answer_defs.specs.PairAnswers.{reaches_lines, is_opener}
 use Rattle.tree_defs.specs.Tree.{Tree, Nothing, Text, Bracket, Lone, Pair, Two, Three, depth}
 use Rattle.tree_defs.specs.Shape.{length_of}
 use Rattle.tree_defs.specs.Rows.{place}
-use Rattle.tree_queries.specs.Known.{Known, known, piece, end_inside}
+use Rattle.tree_queries.specs.Known.{Known, known, piece}
 use Rattle.tree_queries.specs.Answers.{by_row, brackets_known, pairs_known, pair_known}
 use Rattle.tree_queries.specs.Parts.{Placed, Each, IsPairAt, IsLoneAt, pair_opener, pair_closers, opener_at, closers_at}
 use Rattle.tree_queries.specs.Parts.{lone_known}
 use Rattle.tree_queries.specs.declared.parts.PairAt.{PairAt}
-use Rattle.tree_queries.proofs.Lists.{each_more, each_append, none_filter, Fails}
+use Rattle.tree_queries.proofs.Lists.{each_more, each_append, none_filter}
 use Rattle.tree_queries.proofs.Spans.{InSpan, spans}
-use Rattle.tree_queries.proofs.NodePlaces.{inner_tree, closers, whole, inside_same, ins, more, first, end}
+use Rattle.tree_queries.proofs.NodePlaces.{inner_tree, closers, whole, inside_same, more, first, end}
 
 closers_read : (e : Length) (k : ℕ) (kinds : List ℕ) (at o : Length) (c : Option Length)
     → closers e k kinds at o c ≡ closers_at (piece at o) k kinds (option_map (piece e) c)

@@ -1,9 +1,8 @@
 -- The brackets of a node lie between its start and its end.
-use Rattle.std.proofs.Common.{◌≡◌, ℕ, ◌+◌, List, [], ◌∷◌, ◌++◌, true, false, Option, Some, None, refl, sym, ap, ◌∙◌}
-use Rattle.std.proofs.Common.{subst, append-nil}
+use Rattle.std.proofs.Common.{◌≡◌, ℕ, List, [], ◌∷◌, ◌++◌, true, false, Option, Some, None, sym, ap, ◌∙◌}
+use Rattle.std.proofs.Common.{subst}
 use Rattle.text_pos.specs.declared.length.Length.{Length}
 use Rattle.text_pos.specs.declared.length.Pos.{Pos}
-use Rattle.text_pos.specs.declared.kinds.Kinds.{Kinds}
 use Rattle.text_pos.specs.Lengths.{plus}
 use Rattle.pairing_defs.specs.declared.Role.{Role}
 use Rattle.pairing_defs.specs.declared.Role.TheVariants.{Opener, Closer}
@@ -13,9 +12,9 @@ use Rattle.answer_defs.specs.PairAnswers.{end_of}
 use Rattle.tree_defs.specs.Tree.{Tree, Nothing, Text, Bracket, Lone, Pair, Two, Three}
 use Rattle.tree_defs.specs.Shape.{length_of}
 use Rattle.tree_defs.specs.Rows.{place}
-use Rattle.tree_defs.specs.Ends.{IsInLine, fits}
-use Rattle.tree_defs.proofs.Lengths.{plus_assoc, plus_none}
-use Rattle.tree_queries.specs.Known.{Known, known, bracket, end_inside, piece, number}
+use Rattle.tree_defs.specs.Ends.{IsInLine}
+use Rattle.tree_defs.proofs.Lengths.{plus_assoc}
+use Rattle.tree_queries.specs.Known.{Known, known, bracket, end_inside, piece}
 use Rattle.tree_queries.specs.Parts.{Placed, Each, IsEarly, IsLate}
 use Rattle.tree_queries.proofs.Lists.{each_more, each_append}
 use Rattle.tree_queries.proofs.Order.{up_to_itself, up_to_plus, up_to_trans, before_trans, trans_before, in_line_end}

@@ -1,6 +1,6 @@
 -- Rows that a tree has, and its brackets: each row with the bracket that it is.
-use Rattle.std.proofs.Common.{◌≡◌, ℕ, zero, suc, ◌+◌, ◌==◌, cond, List, [], ◌∷◌, ◌++◌, length, Bool, true, false, Option, Some, None}
-use Rattle.std.proofs.Common.{refl, sym, ap, ◌∙◌, subst, arith, append_assoc, append-nil, option_and_then}
+use Rattle.std.proofs.Common.{◌≡◌, ℕ, zero, suc, ◌+◌, ◌==◌, cond, List, [], ◌∷◌, ◌++◌, length, true, false, Option, Some, None}
+use Rattle.std.proofs.Common.{refl, sym, ap, ◌∙◌, subst, arith, append_assoc, option_and_then}
 use Rattle.std.specs.List.{slice_get}
 use Rattle.std.specs.Option.{option_map, is_some}
 use Rattle.std.proofs.lemmas.List.{length-append}
@@ -19,7 +19,7 @@ use Rattle.tree_defs.specs.Items.{Items, end, text, lone, pair, unclosed, stray,
 use Rattle.tree_defs.specs.Items as items
 use Rattle.tree_defs.specs.Reuse.{SeenAs}
 use Rattle.tree_defs.specs.Rows.{FullRow, place, full, tree_rows, IsFull, AreFull}
-use Rattle.tree_queries.specs.Known.{Known, known, lone_bracket, opener_bracket, closer_bracket, piece, number, alike}
+use Rattle.tree_queries.specs.Known.{Known, piece, number, alike}
 use Rattle.tree_queries.specs.Known.{bracket, some_closer}
 use Rattle.tree_queries.proofs.Opened.{known_items}
 

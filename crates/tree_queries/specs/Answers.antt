@@ -1,8 +1,8 @@
 -- The answers, from the brackets of a tree.
-use Rattle.std.specs.Prelude.{ℕ, suc, ◌-◌, List, [], ◌∷◌, length, map, filter, flat_map, reverse, min, Bool, true, false, Option}
+use Rattle.std.specs.Prelude.{ℕ, List, length, map, filter, reverse, Bool, true, false, Option}
 use Rattle.std.specs.Prelude.{◌==◌, ◌&&◌, nat_le, nat_lt}
-use Rattle.std.specs.Prelude.{option_and_then, Some, None}
-use Rattle.std.specs.List.{find, range_with_len}
+use Rattle.std.specs.Prelude.{option_and_then}
+use Rattle.std.specs.List.{find}
 use Rattle.std.specs.Option.{option_or, option_map}
 use Rattle.text_pos.specs.declared.length.Pos.{Pos}
 use Rattle.text_pos.specs.declared.length.Span.{Span}

@@ -1,8 +1,6 @@
 -- The brackets of a tree, in order, by a walk over its nodes with a place and the kinds of the pairs entered.
 use Rattle.std.specs.Prelude.{ℕ, ◌+◌, ◌==◌, List, [], ◌∷◌, ◌++◌, length, count_by, Option, Some, None}
 use Rattle.text_pos.specs.declared.length.Length.{Length}
-use Rattle.text_pos.specs.declared.length.Pos.{Pos}
-use Rattle.text_pos.specs.declared.kinds.Kinds.{Kinds}
 use Rattle.text_pos.specs.Lengths.{plus}
 use Rattle.pairing_defs.specs.declared.Role.{Role}
 use Rattle.pairing_defs.specs.declared.Role.TheVariants.{Opener, Closer}

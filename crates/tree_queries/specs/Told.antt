@@ -1,6 +1,5 @@
 -- What a query asks of a tree, and what it answers: rows that the tree has.
-use Rattle.std.specs.Prelude.{◌≡◌, ℕ, List, []}
-use Rattle.text_pos.specs.declared.length.Pos.{Pos}
+use Rattle.std.specs.Prelude.{◌≡◌, List, []}
 use Rattle.pairing_defs.specs.declared.Row.{Row}
 use Rattle.tree_defs.specs.Tree.{Tree}
 use Rattle.tree_defs.specs.Items.{items_of}

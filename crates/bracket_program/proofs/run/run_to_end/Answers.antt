@@ -1,4 +1,4 @@
-use Rattle.std.proofs.Common.{sym, map, arith}
+use Rattle.std.proofs.Common.{sym, map}
 use Rattle.std.specs.Prelude.{string_bytes}
 use Rattle.bracket_program.specs.Sessions.{session_in}
 use Rattle.bracket_program.proofs.WordLaws.{request_tab}

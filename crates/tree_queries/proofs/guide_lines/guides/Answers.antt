@@ -1,4 +1,4 @@
-use Rattle.std.proofs.Common.{◌≡◌, ℕ, suc, ◌-◌, ◌∙◌, List, [], flat_map, sym, subst, Some, None, Option, refl}
+use Rattle.std.proofs.Common.{◌≡◌, suc, ◌-◌, ◌∙◌, sym, subst, Some, Option, refl}
 use Rattle.std.specs.List.{range_with_len}
 use Rattle.bracket_ast.specs.Shapes.{or_nothing}
 use Rattle.text_defs.specs.Text.{lines_of}

@@ -1,4 +1,4 @@
-use Rattle.std.proofs.Common.{◌+◌, arith, rules, [], refl}
+use Rattle.std.proofs.Common.{◌+◌, arith, [], refl}
 use Rattle.text_defs.specs.Text.{lines_of}
 use Rattle.tree_defs.specs.Rows.{start}
 use Rattle.tree_queries.specs.Known.{known}

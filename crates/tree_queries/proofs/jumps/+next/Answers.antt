@@ -1,11 +1,11 @@
-use Rattle.std.proofs.Common.{◌≡◌, ◌∙◌, ◌++◌, ◌∷◌, List, [], sym, ap, Option, Some, None, true, refl}
+use Rattle.std.proofs.Common.{◌≡◌, ◌∙◌, ◌++◌, ◌∷◌, [], sym, ap, Option, Some, None, true, refl}
 use Rattle.std.specs.Option.{option_or}
 use Rattle.text_pos.specs.declared.length.Pos.{Pos}
 use Rattle.tree_queries.specs.Known.{known}
 use Rattle.tree_queries.specs.Answers.{next_known}
 use Rattle.tree_queries.specs.Parts.{left_of}
 use Rattle.tree_defs.specs.Rows.{place}
-use Rattle.tree_queries.proofs.NextPlaces.{bare_rows, next_none, next_pair, next_lone, next_two, next_three}
+use Rattle.tree_queries.proofs.NextPlaces.{bare_rows, next_none, next_pair, next_two, next_three}
 use Rattle.tree_queries.proofs.jumps.+next.Goals as goal
 
 pub next-returns-then-is_bare : goal.next-returns-then-is_bare

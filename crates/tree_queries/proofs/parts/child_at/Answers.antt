@@ -1,4 +1,4 @@
-use Rattle.std.proofs.Common.{◌≡◌, Bool, sym, ap, ◌∙◌, subst, arith, rules}
+use Rattle.std.proofs.Common.{◌≡◌, Bool, sym, ap, ◌∙◌, subst, arith}
 use Rattle.text_pos.specs.declared.length.Length.{Length}
 use Rattle.text_pos.specs.Lengths.{plus}
 use Rattle.tree_defs.specs.Shape.{length_of}

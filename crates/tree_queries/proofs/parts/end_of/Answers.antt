@@ -1,4 +1,4 @@
-use Rattle.std.proofs.Common.{◌≡◌, arith}
+use Rattle.std.proofs.Common.{arith}
 use Rattle.tree_queries.proofs.Children.{end_fits}
 use Rattle.tree_queries.proofs.Order.{fits_by}
 use Rattle.tree_queries.proofs.parts.end_of.Goals as goal

@@ -1,13 +1,12 @@
-use Rattle.std.proofs.Common.{◌≡◌, Option, Some, None, sym, ap, ◌∙◌, subst, refl}
+use Rattle.std.proofs.Common.{◌≡◌, Option, sym, ap, ◌∙◌, subst}
 use Rattle.std.specs.Option.{option_map}
 use Rattle.text_pos.specs.declared.length.Length.{Length}
 use Rattle.text_pos.specs.Lengths.{plus}
 use Rattle.tree_defs.specs.Tree.{Tree, Pair}
 use Rattle.tree_defs.specs.Shape.{length_of}
-use Rattle.tree_defs.specs.Ends.{fits}
-use Rattle.bracket_ast.specs.Shapes.{or_nothing, nows, no_nothing, inside_of, opener_of, closer_of, kind_of}
+use Rattle.bracket_ast.specs.Shapes.{or_nothing, nows, inside_of, opener_of, closer_of, kind_of}
 use Rattle.tree_queries.specs.Known.{piece, end_inside}
-use Rattle.tree_queries.specs.Parts.{Placed, IsCloserAt}
+use Rattle.tree_queries.specs.Parts.{Placed}
 use Rattle.tree_queries.proofs.Children.{pair_shape, pair_stands, PairStands, inside_again, closer_piece}
 use Rattle.tree_queries.proofs.parts.pair_at.Goals as goal
 

@@ -1,4 +1,4 @@
-use Rattle.std.proofs.Common.{◌≡◌, ◌∙◌, sym, ap, ◌++◌, ◌∷◌, [], true}
+use Rattle.std.proofs.Common.{◌∙◌, sym, ap, ◌++◌, ◌∷◌, [], true}
 use Rattle.std.specs.Option.{option_or}
 use Rattle.tree_queries.proofs.NodePlaces.{around_narrows, around_pair, around_out_of_pair, inner_tree}
 use Rattle.tree_queries.specs.Known.{known}

@@ -1,4 +1,4 @@
-use Rattle.std.proofs.Common.{◌≡◌, ◌∙◌, sym, ap, ◌+◌, ◌++◌, ◌∷◌, [], arith}
+use Rattle.std.proofs.Common.{◌∙◌, sym, ap, ◌+◌, ◌++◌, ◌∷◌, []}
 use Rattle.tree_queries.proofs.NodePlaces.{level_narrows, level_in_pair, level_out_of_pair}
 use Rattle.tree_queries.proofs.places.+levels.Goals as goal
 

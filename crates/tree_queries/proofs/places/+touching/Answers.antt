@@ -1,10 +1,8 @@
 use Rattle.std.proofs.Common.{◌≡◌, ◌∙◌, sym, ap, ◌++◌, ◌∷◌, [], Option}
-use Rattle.std.specs.List.{find}
 use Rattle.std.specs.Option.{option_or, option_map}
-use Rattle.tree_queries.specs.Known.{known}
-use Rattle.tree_queries.specs.Answers.{touched_of, touches, by_row}
+use Rattle.tree_queries.specs.Answers.{touched_of}
 use Rattle.tree_queries.specs.declared.places.Touched.{Touched}
-use Rattle.tree_queries.proofs.AtPlaces.{touching_narrows, touching_pair, touching_lone}
+use Rattle.tree_queries.proofs.AtPlaces.{touching_narrows, touching_pair}
 use Rattle.tree_queries.proofs.places.+touching.Goals as goal
 
 ored : (a b c x y z u v : Option Touched) → u ≡ option_or x b → v ≡ option_or u z → x ≡ a → b ≡ y → z ≡ c

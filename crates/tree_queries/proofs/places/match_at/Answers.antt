@@ -1,4 +1,4 @@
-use Rattle.std.proofs.Common.{◌≡◌, ◌∙◌, ap, sym, subst, Some, None, Option, [], option_and_then}
+use Rattle.std.proofs.Common.{◌≡◌, ◌∙◌, ap, sym, subst, Some, Option, [], option_and_then}
 use Rattle.bracket_ast.specs.Shapes.{or_nothing}
 use Rattle.tree_defs.specs.Tree.{Tree, Nothing}
 use Rattle.tree_defs.specs.Rows.{start}

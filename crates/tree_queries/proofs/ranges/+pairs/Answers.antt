@@ -1,8 +1,7 @@
-use Rattle.std.proofs.Common.{◌≡◌, ℕ, ◌∙◌, ◌++◌, ◌∷◌, List, [], sym, ap, append-nil, append_assoc, true, refl, Option, Some, None}
-use Rattle.std.proofs.Common.{map, filter}
+use Rattle.std.proofs.Common.{◌≡◌, ℕ, ◌∙◌, ◌++◌, ◌∷◌, List, [], sym, ap, append-nil, append_assoc, refl, Option, Some, None}
 use Rattle.std.proofs.lemmas.Result.{on_ok_weaker}
 use Rattle.answer_defs.specs.declared.answer.MarkAt.{MarkAt}
-use Rattle.tree_queries.specs.Known.{Known, known}
+use Rattle.tree_queries.specs.Known.{known}
 use Rattle.tree_queries.specs.Answers.{pairs_known}
 use Rattle.tree_queries.specs.Parts.{pair_opener, pair_closers, closers_at}
 use Rattle.tree_queries.proofs.NodePlaces.{inner_tree}

@@ -1,4 +1,4 @@
-use Rattle.std.proofs.Common.{◌≡◌, ◌∙◌, sym, subst, Some, None, Option}
+use Rattle.std.proofs.Common.{◌≡◌, ◌∙◌, sym, subst, Some, Option}
 use Rattle.bracket_ast.specs.Shapes.{or_nothing}
 use Rattle.tree_defs.specs.Tree.{Tree, Nothing}
 use Rattle.tree_queries.specs.Told.{IsPlaced, HasRows}
