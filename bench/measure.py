@@ -16,15 +16,16 @@ built = here.parent / "crates/bracket_program/out/bracket_program"
 
 
 class Best:
-    """The best of three runs: seconds, what was written, and the most memory in kilobytes."""
+    """The best of three runs: seconds, those of the processor, what was written, and the most memory in kilobytes."""
 
-    def __init__(self, seconds, wrote, memory):
-        self.seconds, self.wrote, self.memory = seconds, wrote, memory
+    def __init__(self, seconds, used, wrote, memory):
+        self.seconds, self.used, self.wrote, self.memory = seconds, used, wrote, memory
 
 
-def program():
-    """The built program: the word behind the script's name, or the one that demo/run builds."""
-    path = Path(sys.argv[1]).resolve() if len(sys.argv) > 1 else built
+def program(words=None):
+    """The built program: the first of these words, which are those behind the script's name, or what demo/run builds."""
+    words = sys.argv[1:] if words is None else words
+    path = Path(words[0]).resolve() if words else built
     if not os.access(path, os.X_OK):
         sys.exit(f"{Path(sys.argv[0]).name}: there is no program {path}: build it by demo/run first")
     return path
@@ -47,7 +48,7 @@ def once(words, script):
         if status != 0:
             sys.exit(f"{words[0]} ended with status {os.waitstatus_to_exitcode(status)}")
         wrote.seek(0)
-        return Best(seconds, wrote.read().decode(), used.ru_maxrss)
+        return Best(seconds, used.ru_utime + used.ru_stime, wrote.read().decode(), used.ru_maxrss)
 
 
 def replies(best):
