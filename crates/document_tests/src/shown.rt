@@ -50,7 +50,10 @@ fn twin_text(alloc: Global, twin: Option<Twin>) -> Result<String, AllocError> {
         None => String::from_str(alloc, "null"),
         Some(twin) => {
             let (first, second) = (twin.first.from, twin.second.from);
-            format!(in alloc; "{}:{} {}:{}", first.line, first.col, second.line, second.col)
+            format!(in alloc;
+                "{}:{} {}:{}",
+                first.line, first.col, second.line, second.col
+            )
         }
     }
 }

@@ -72,7 +72,15 @@ fn a_mark_half_inside_a_string_does_not_count(rt: HostRuntime) -> Result<(), Fai
     let text = b"f(\"a\")";
     let brackets = quoted(alloc)?;
     let by_columns = rows(0, "0:1-3 0;0:4-6 0;");
-    assert!(rt; all_go(alloc, Machine::plain(alloc, LIMITS)?, brackets, text, &[by_columns])?);
+    assert!(rt;
+        all_go(
+            alloc,
+            Machine::plain(alloc, LIMITS)?,
+            brackets,
+            text,
+            &[by_columns]
+        )?
+    );
     let brackets = quoted(alloc)?;
     assert!(rt; all_go(alloc, small_grammar(alloc)?, brackets, text, &[rows(0, "")])?);
     Ok(())

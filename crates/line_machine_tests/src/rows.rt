@@ -206,11 +206,7 @@ pub fn group<'a>(active: &'a [u32]) -> Row<'a> {
     }
 }
 
-pub fn single<'a>(
-    name: &'a str,
-    start: &'a str,
-    start_captures: &'a [Entry<'a>],
-) -> Row<'a> {
+pub fn single<'a>(name: &'a str, start: &'a str, start_captures: &'a [Entry<'a>]) -> Row<'a> {
     Row {
         kind: RuleKind::Match,
         name,
@@ -220,12 +216,7 @@ pub fn single<'a>(
     }
 }
 
-pub fn block<'a>(
-    name: &'a str,
-    start: &'a str,
-    finish: &'a str,
-    active: &'a [u32],
-) -> Row<'a> {
+pub fn block<'a>(name: &'a str, start: &'a str, finish: &'a str, active: &'a [u32]) -> Row<'a> {
     Row {
         kind: RuleKind::BeginEnd,
         name,
@@ -235,12 +226,7 @@ pub fn block<'a>(
     }
 }
 
-pub fn lasting<'a>(
-    name: &'a str,
-    start: &'a str,
-    finish: &'a str,
-    active: &'a [u32],
-) -> Row<'a> {
+pub fn lasting<'a>(name: &'a str, start: &'a str, finish: &'a str, active: &'a [u32]) -> Row<'a> {
     Row {
         kind: RuleKind::BeginWhile,
         ..block(name, start, finish, active)
