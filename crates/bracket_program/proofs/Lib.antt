@@ -1,7 +1,9 @@
+mod FileLaws
 mod GivenLines
 mod LineReadings
+mod OpenLaws
 mod Replying
-mod Requests
 mod RunLaws
 mod Scripts
 mod ServingLaws
+mod WordLaws

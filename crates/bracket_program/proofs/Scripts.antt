@@ -9,6 +9,7 @@ use Rattle.piece_io.specs.CutLaws.{whole_lines-append, unfinished-append}
 use Rattle.document_defs.specs.TextRows.{Settings}
 use Rattle.script_words.specs.ReplyText.{reply_text}
 use Rattle.script_words.specs.Script.{Reading, reading_of}
+use Rattle.session_defs.specs.Opening.{Session}
 use Rattle.session_defs.specs.Session.{reading_step, replies_to, text_behind, opened}
 use Rattle.session_defs.specs.Output.{written_for, script_lines, line_if_any}
 use Rattle.bracket_program.specs.Ends.{Takes}
@@ -68,11 +69,13 @@ pub text_behind-append : (settings : Settings) (text : List ℕ) (xs ys : List R
 text_behind-append settings text [] ys = refl
 text_behind-append settings text (x ∷ xs) ys = text_behind-append settings (reading_step settings text x).text xs ys
 
-pub written_for-append : (settings : Settings) (text : List ℕ) (xs ys : List (List ℕ))
-    → written_for settings text (xs ++ ys) ≡ written_for settings text xs ++ replies_to settings
-    (text_behind settings text (map reading_of xs)) (map reading_of ys)
-written_for-append settings text xs ys =
-    let start = reply_text (opened text) in
+pub written_for-append : (session : Session) (xs ys : List (List ℕ))
+    → written_for session (xs ++ ys) ≡ written_for session xs ++ replies_to session.settings
+    (text_behind session.settings session.text (map reading_of xs)) (map reading_of ys)
+written_for-append session xs ys =
+    let start = reply_text (opened session) in
+    let settings = session.settings in
+    let text = session.text in
     ap (λ rs. start ++ replies_to settings text rs) (map-append reading_of xs ys)
     ∙ (ap (λ later. start ++ later) (replies_to-append settings text (map reading_of xs) (map reading_of ys))
     ∙ sym (append_assoc start (replies_to settings text (map reading_of xs))

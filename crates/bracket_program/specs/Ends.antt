@@ -1,6 +1,6 @@
 -- How a run ends: what each status says of the counts of faults, of what was taken and of what was written.
 use Rattle.std.specs.Prelude.{◌≡◌, ℕ, ◌<◌, ◌≤◌, List, [], ◌++◌, length, Option, Some, IfSome, option_map}
-use Rattle.document_defs.specs.TextRows.{Settings}
+use Rattle.session_defs.specs.Opening.{Session}
 use Rattle.text_defs.specs.Text.{whole_lines}
 use Rattle.piece_io.specs.Told.{appended, risen}
 use Rattle.session_defs.specs.Output.{written_for, script_lines, most_script_bytes}
@@ -22,11 +22,7 @@ pub record WritesFront (before after : Option (List ℕ)) (all : List ℕ) : Typ
 abbrev pub IsReplyEnd : ℕ → ℕ → Status → Type 0
 IsReplyEnd before after status.WriteFault = risen before ≤ after
 IsReplyEnd before after status.Memory = after ≡ before
-IsReplyEnd before after status.Done = ⊥
-IsReplyEnd before after status.Words = ⊥
-IsReplyEnd before after status.TextFile = ⊥
-IsReplyEnd before after status.ReadFault = ⊥
-IsReplyEnd before after status.ScriptFull = ⊥
+IsReplyEnd before after _ = ⊥
 
 -- what is told of a script and of a sink, and their counts of faults
 pub record Outside : Type 0 where
@@ -39,36 +35,38 @@ abbrev pub outside : Option (List ℕ) → Option (List ℕ) → ℕ → ℕ →
 outside left held reads writes = record { left = left; held = held; reads = reads; writes = writes }
 
 -- all of the script was taken, and each line has its reply
-pub record IsDone (before after : Outside) (settings : Settings) (text : List ℕ) : Type 0 where
+pub record IsDone (before after : Outside) (session : Session) : Type 0 where
   pub script : List ℕ
   pub takes : Takes before.left after.left script
   pub ended : IfSome after.left (λ rest. rest ≡ [])
   pub short : length script < most_script_bytes
-  pub writes : after.held ≡ appended before.held (written_for settings text (script_lines script))
+  pub writes : after.held ≡ appended before.held (written_for session (script_lines script))
   pub reads_stand : after.reads ≡ before.reads
   pub writes_stand : after.writes ≡ before.writes
 
 -- some of the script was taken, and each whole line of that has its reply
-pub record IsCut (before after : Outside) (settings : Settings) (text : List ℕ) : Type 0 where
+pub record IsCut (before after : Outside) (session : Session) : Type 0 where
   pub script : List ℕ
   pub takes : Takes before.left after.left script
-  pub writes : after.held ≡ appended before.held (written_for settings text (whole_lines script))
+  pub writes : after.held ≡ appended before.held (written_for session (whole_lines script))
   pub short : length script ≤ most_script_bytes
   pub writes_stand : after.writes ≡ before.writes
 
 -- what was written is a front of what would be
-pub record IsFront (before after : Outside) (settings : Settings) (text : List ℕ) : Type 0 where
-  pub front : (script : List ℕ) → before.left ≡ Some script → WritesFront before.held after.held (written_for settings text (script_lines script))
+pub record IsFront (before after : Outside) (session : Session) : Type 0 where
+  pub front : (script : List ℕ) → before.left ≡ Some script → WritesFront before.held after.held (written_for session (script_lines script))
 
--- how each other status of a script that is answered stands to the outside
-abbrev pub IsEnd : Outside → Outside → Settings → List ℕ → Status → Type 0
-IsEnd before after settings text status.ReadFault = IsCut before after settings text × (risen before.reads ≤ after.reads)
-IsEnd before after settings text status.ScriptFull = (cut : IsCut before after settings text) × (length cut.script ≡ most_script_bytes) × (after.reads ≡ before.reads)
-IsEnd before after settings text status.WriteFault = IsFront before after settings text × (risen before.writes ≤ after.writes) × (after.reads ≡ before.reads)
-IsEnd before after settings text status.Memory = IsFront before after settings text × (after.writes ≡ before.writes) × (after.reads ≡ before.reads)
-IsEnd before after settings text status.Done = ⊥
-IsEnd before after settings text status.Words = ⊥
-IsEnd before after settings text status.TextFile = ⊥
+-- how each status of a script that is answered stands to the outside
+abbrev pub IsEnd : Outside → Outside → Session → Status → Type 0
+IsEnd before after session status.Done = IsDone before after session
+IsEnd before after session status.ReadFault = IsCut before after session × (risen before.reads ≤ after.reads)
+IsEnd before after session status.ScriptFull =
+    (cut : IsCut before after session) × (length cut.script ≡ most_script_bytes) × (after.reads ≡ before.reads)
+IsEnd before after session status.WriteFault =
+    IsFront before after session × (risen before.writes ≤ after.writes) × (after.reads ≡ before.reads)
+IsEnd before after session status.Memory =
+    IsFront before after session × (after.writes ≡ before.writes) × (after.reads ≡ before.reads)
+IsEnd before after session _ = ⊥
 
 -- of all these bytes a front was added to what is held, and the rest is still to come
 pub record WritesUpTo (before after : Option (List ℕ)) (all rest : List ℕ) : Type 0 where

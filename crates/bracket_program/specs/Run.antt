@@ -1,91 +1,192 @@
 -- What a whole run does, for each status that it ends with.
-use Rattle.std.specs.Prelude.{◌≡◌, ◌⊎◌, ℕ, ◌-◌, ◌^◌, ◌<◌, ◌≤◌, List, [], ◌++◌, true, false, Option, Some, None}
-use Rattle.text_defs.specs.Text.{text_of}
+use Rattle.std.specs.Prelude.{◌≡◌, ◌⊎◌, ℕ, ◌-◌, ◌^◌, ◌<◌, ◌≤◌, List, [], ◌∷◌, ◌++◌, true, false, Option, Some, None}
 use Rattle.piece_io.specs.Told.{Told, Untold, Missing, Holds, appended, risen}
-use Rattle.document_defs.specs.TextRows.{usual}
-use Rattle.session_defs.specs.Output.{is_accepted, output_of, written_so_far}
+use Rattle.session_defs.specs.declared.file_kind.FileKind.{FileKind}
+use Rattle.session_defs.specs.declared.file_kind.FileKind.TheVariants as kind
 use Rattle.session_defs.specs.Words.{Request}
-use Rattle.bracket_program.specs.Ends.{Outside, IsDone, IsEnd, WritesFront}
+use Rattle.session_defs.specs.Opening.{NamedFile, Inputs, files_of, is_accepted, session_of}
+use Rattle.session_defs.specs.Output.{output_of, written_so_far}
+use Rattle.bracket_program.specs.Ends.{Outside, IsEnd, WritesFront}
 use Rattle.bracket_program.specs.declared.status.Status.{Status}
 use Rattle.bracket_program.specs.declared.status.Status.TheVariants as status
 
--- the file, so far as it is told of, is accepted and stands for the text
-abbrev pub Opens : Told → List ℕ → Type 0
-Opens Untold text = Unit {0}
-Opens Missing text = ⊥
-Opens (Holds file) text = (is_accepted file ≡ true) × (text ≡ text_of file)
+-- ---- one file
+
+-- these are the file's bytes, so far as it is told of
+abbrev pub Reads : Told → List ℕ → Type 0
+Reads Untold bytes = Unit {0}
+Reads Missing bytes = ⊥
+Reads (Holds file) bytes = bytes ≡ file
+
+-- and they are accepted
+pub record Opens (told : Told) (kind : FileKind) (bytes : List ℕ) : Type 0 where
+  pub reads : Reads told bytes
+  pub accepted : is_accepted kind bytes ≡ true
 
 -- the file, so far as it is told of, is there and isn't accepted
-abbrev pub Refuses : Told → Type 0
-Refuses Untold = Unit {0}
-Refuses Missing = ⊥
-Refuses (Holds file) = is_accepted file ≡ false
+abbrev pub Refuses : Told → FileKind → Type 0
+Refuses Untold kind = Unit {0}
+Refuses Missing kind = ⊥
+Refuses (Holds file) kind = is_accepted kind file ≡ false
 
 -- the file is told to be missing, or not to be accepted
-abbrev pub CannotOpen : Told → Type 0
-CannotOpen Untold = ⊥
-CannotOpen Missing = Unit {0}
-CannotOpen (Holds file) = is_accepted file ≡ false
+abbrev pub CannotOpen : Told → FileKind → Type 0
+CannotOpen Untold kind = ⊥
+CannotOpen Missing kind = Unit {0}
+CannotOpen (Holds file) kind = is_accepted kind file ≡ false
 
 -- no read of a file failed
 abbrev pub SameCounts : (List ℕ → ℕ) → (List ℕ → ℕ) → Type 0
 SameCounts before after = (q : List ℕ) → after q ≡ before q
 
--- why the text file opens no document: its count and what is told of it
-abbrev pub IsFileEnd : List ℕ → Told → (List ℕ → ℕ) → (List ℕ → ℕ) → Status → Type 0
-IsFileEnd name told before after status.TextFile = Refuses told × SameCounts before after
-IsFileEnd name told before after status.ReadFault = risen (before name) ≤ after name
-IsFileEnd name told before after status.Memory = SameCounts before after
-IsFileEnd name told before after status.Done = ⊥
-IsFileEnd name told before after status.Words = ⊥
-IsFileEnd name told before after status.WriteFault = ⊥
-IsFileEnd name told before after status.ScriptFull = ⊥
+-- the status of a file that isn't accepted
+abbrev pub refusal_of : FileKind → Status
+refusal_of kind.Text = status.TextFile
+refusal_of kind.Grammar = status.GrammarFile
+refusal_of kind.Brackets = status.BracketFile
 
--- what the text file opens as, and what becomes of it
-abbrev pub Answered : Request → (List ℕ → Told) → (List ℕ → Type 0) → Type 0
-Answered request contents P = (text : List ℕ) × Opens (contents request.text) text × P text
+-- Why a file isn't opened: its count rose, memory was wanting, or it isn't accepted.
+abbrev pub IsFileEnd : (List ℕ → Told) → (List ℕ → ℕ) → (List ℕ → ℕ) → NamedFile → Status → Type 0
+IsFileEnd contents faults faults' f status.ReadFault = risen (faults f.name) ≤ faults' f.name
+IsFileEnd contents faults faults' f status.Memory = SameCounts faults faults'
+IsFileEnd contents faults faults' f s = (s ≡ refusal_of f.kind) × Refuses (contents f.name) f.kind × SameCounts faults faults'
 
--- a run for these words: nothing is read that they don't name, and nothing is written before the text is open
+-- ---- the files, in the order in which they are opened
+
+-- one of them is reached, since those before it are accepted, and this holds of it
+abbrev pub Reaches : (List ℕ → Told) → (NamedFile → Type 0) → List NamedFile → Type 0
+Reaches contents P [] = ⊥
+Reaches contents P (f ∷ files) =
+    P f ⊎ (((bytes : List ℕ) × Opens (contents f.name) f.kind bytes) × Reaches contents P files)
+
+-- one of a kind is reached and refused
+abbrev pub RefusedAt : (List ℕ → Told) → FileKind → List NamedFile → Type 0
+RefusedAt contents kind files = Reaches contents (λ f. (f.kind ≡ kind) × Refuses (contents f.name) f.kind) files
+
+-- one is reached whose count rose
+abbrev pub FailedAt : (List ℕ → Told) → (List ℕ → ℕ) → (List ℕ → ℕ) → List NamedFile → Type 0
+FailedAt contents faults faults' files = Reaches contents (λ f. risen (faults f.name) ≤ faults' f.name) files
+
+-- one of them has this
+abbrev pub Some_ : (NamedFile → Type 0) → List NamedFile → Type 0
+Some_ P [] = ⊥
+Some_ P (f ∷ files) = P f ⊎ Some_ P files
+
+-- each of them has this
+abbrev pub Each : (NamedFile → Type 0) → List NamedFile → Type 0
+Each P [] = Unit {0}
+Each P (f ∷ files) = P f × Each P files
+
+-- these are the bytes of a file that may be named
+abbrev pub OpensIf : (List ℕ → Told) → FileKind → Option (List ℕ) → Option (List ℕ) → Type 0
+OpensIf contents kind None None = Unit {0}
+OpensIf contents kind (Some name) (Some bytes) = Opens (contents name) kind bytes
+OpensIf contents kind _ _ = ⊥
+
+-- these are the bytes of all files that are named
+pub record OpensAll (contents : List ℕ → Told) (r : Request) (inputs : Inputs) : Type 0 where
+  pub text : Opens (contents r.text) kind.Text inputs.text
+  pub grammar : OpensIf contents kind.Grammar r.grammar inputs.grammar
+  pub brackets : OpensIf contents kind.Brackets r.brackets inputs.brackets
+
+-- ---- a run
+
+-- what the files open as, and what becomes of it
+pub record Answered (r : Request) (contents : List ℕ → Told) (P : Inputs → Type 0) : Type 0 where
+  pub inputs : Inputs
+  pub opens : OpensAll contents r inputs
+  pub ends : P inputs
+
+-- A run for these words: nothing is read that they don't name, and nothing is written before all files are open.
 abbrev pub IsRun : (List ℕ → Told) → (List ℕ → ℕ) → (List ℕ → ℕ) → Outside → Outside → Option Request → Status → Type 0
 IsRun contents faults faults' before after None status.Words = SameCounts faults faults' × (after ≡ before)
-IsRun contents faults faults' before after None status.Done = ⊥
-IsRun contents faults faults' before after None status.TextFile = ⊥
-IsRun contents faults faults' before after None status.ReadFault = ⊥
-IsRun contents faults faults' before after None status.WriteFault = ⊥
-IsRun contents faults faults' before after None status.ScriptFull = ⊥
-IsRun contents faults faults' before after None status.Memory = ⊥
+IsRun contents faults faults' before after None _ = ⊥
 IsRun contents faults faults' before after (Some r) status.Words = ⊥
-IsRun contents faults faults' before after (Some r) status.TextFile = Refuses (contents r.text) × SameCounts faults faults' × (after ≡ before)
-IsRun contents faults faults' before after (Some r) status.Done = SameCounts faults faults' × Answered r contents (IsDone before after (usual r.limits))
-IsRun contents faults faults' before after (Some r) status.ScriptFull = SameCounts faults faults' × Answered r contents (λ text. IsEnd before after (usual r.limits) text status.ScriptFull)
-IsRun contents faults faults' before after (Some r) status.WriteFault = SameCounts faults faults' × Answered r contents (λ text. IsEnd before after (usual r.limits) text status.WriteFault)
-IsRun contents faults faults' before after (Some r) status.ReadFault = ((risen (faults r.text) ≤ faults' r.text) × (after ≡ before))
-    ⊎ (SameCounts faults faults' × Answered r contents (λ text. IsEnd before after (usual r.limits) text status.ReadFault))
+IsRun contents faults faults' before after (Some r) status.TextFile =
+    RefusedAt contents kind.Text (files_of r) × SameCounts faults faults' × (after ≡ before)
+IsRun contents faults faults' before after (Some r) status.GrammarFile =
+    RefusedAt contents kind.Grammar (files_of r) × SameCounts faults faults' × (after ≡ before)
+IsRun contents faults faults' before after (Some r) status.BracketFile =
+    RefusedAt contents kind.Brackets (files_of r) × SameCounts faults faults' × (after ≡ before)
+IsRun contents faults faults' before after (Some r) status.ReadFault =
+    (FailedAt contents faults faults' (files_of r) × (after ≡ before))
+    ⊎ (SameCounts faults faults'
+    × Answered r contents (λ inputs. IsEnd before after (session_of r.limits inputs) status.ReadFault))
 IsRun contents faults faults' before after (Some r) status.Memory = SameCounts faults faults'
-    × ((after ≡ before) ⊎ Answered r contents (λ text. IsEnd before after (usual r.limits) text status.Memory))
+    × ((after ≡ before) ⊎ Answered r contents (λ inputs. IsEnd before after (session_of r.limits inputs) status.Memory))
+IsRun contents faults faults' before after (Some r) s =
+    SameCounts faults faults' × Answered r contents (λ inputs. IsEnd before after (session_of r.limits inputs) s)
 
--- Where file and script are told: each line of the whole script has its reply, and no byte of it is left.
+-- ---- where files and script are told
+
+-- what a file that may be named holds
+abbrev pub TellsIf : (List ℕ → Told) → Option (List ℕ) → Option (List ℕ) → Type 0
+TellsIf contents None None = Unit {0}
+TellsIf contents (Some name) (Some bytes) = contents name ≡ Holds bytes
+TellsIf contents _ _ = ⊥
+
+-- what all files hold that are named
+pub record TellsAll (contents : List ℕ → Told) (r : Request) (inputs : Inputs) : Type 0 where
+  pub text : contents r.text ≡ Holds inputs.text
+  pub grammar : TellsIf contents r.grammar inputs.grammar
+  pub brackets : TellsIf contents r.brackets inputs.brackets
+
+-- the file is told to be accepted
+abbrev pub IsAccepted : Told → FileKind → Type 0
+IsAccepted Untold kind = ⊥
+IsAccepted Missing kind = ⊥
+IsAccepted (Holds file) kind = is_accepted kind file ≡ true
+
+-- the file is told not to be accepted
+abbrev pub IsRefused : Told → FileKind → Type 0
+IsRefused Untold kind = ⊥
+IsRefused Missing kind = ⊥
+IsRefused (Holds file) kind = is_accepted kind file ≡ false
+
+-- the first of the files that isn't told to be accepted is of this kind, and is told not to be
+abbrev pub FirstRefused : (List ℕ → Told) → FileKind → List NamedFile → Type 0
+FirstRefused contents kind [] = ⊥
+FirstRefused contents kind (f ∷ files) = ((f.kind ≡ kind) × IsRefused (contents f.name) f.kind)
+    ⊎ (IsAccepted (contents f.name) f.kind × FirstRefused contents kind files)
+
+-- each line of the whole script has its reply, and no byte of it is left
 abbrev pub AnswersAll : (List ℕ → Told) → Outside → Outside → Request → Type 0
-AnswersAll contents before after r = (file script : List ℕ) → contents r.text ≡ Holds file → before.left ≡ Some script
-    → (after.held ≡ appended before.held (output_of r.limits file script)) × (after.left ≡ Some [])
+AnswersAll contents before after r = (inputs : Inputs) (script : List ℕ) → TellsAll contents r inputs
+    → before.left ≡ Some script
+    → (after.held ≡ appended before.held (output_of r.limits inputs script)) × (after.left ≡ Some [])
 
--- Where they are told: a front of the script was taken, and each whole line of that has its reply.
+-- a front of the script was taken, and each whole line of that has its reply
 abbrev pub AnswersTaken : (List ℕ → Told) → Outside → Outside → (List ℕ → Type 0) → Request → Type 0
-AnswersTaken contents before after P r = (file script : List ℕ) → contents r.text ≡ Holds file → before.left ≡ Some script
+AnswersTaken contents before after P r = (inputs : Inputs) (script : List ℕ) → TellsAll contents r inputs
+    → before.left ≡ Some script
     → (taken : List ℕ) × (rest : List ℕ) × (script ≡ taken ++ rest) × (after.left ≡ Some rest)
-    × (after.held ≡ appended before.held (written_so_far r.limits file taken)) × P taken
+    × (after.held ≡ appended before.held (written_so_far r.limits inputs taken)) × P taken
 
--- Where they are told: a front of what the whole script asks for was written.
+-- a front of what the whole script asks for was written
 abbrev pub WritesSome : (List ℕ → Told) → Outside → Outside → Request → Type 0
-WritesSome contents before after r = (file script : List ℕ) → contents r.text ≡ Holds file → before.left ≡ Some script
-    → WritesFront before.held after.held (output_of r.limits file script)
+WritesSome contents before after r = (inputs : Inputs) (script : List ℕ) → TellsAll contents r inputs
+    → before.left ≡ Some script → WritesFront before.held after.held (output_of r.limits inputs script)
+
+-- nothing of the script was taken, and nothing was written
+abbrev pub IsUntouched : Outside → Outside → Type 0
+IsUntouched before after = (after.left ≡ before.left) × (after.held ≡ before.held)
+
+-- ---- counts
 
 -- a count stands, and could have risen
 abbrev pub Stands : ℕ → ℕ → Type 0
 Stands before after = (after ≡ before) × (before < 2 ^ 64 - 1)
 
+-- no count of a file that the words name rose
+abbrev pub FilesStand : (List ℕ → ℕ) → (List ℕ → ℕ) → Request → Type 0
+FilesStand faults faults' r = Each (λ f. Stands (faults f.name) (faults' f.name)) (files_of r)
+
 -- no count of what the words name rose
 pub record AllStand (faults faults' : List ℕ → ℕ) (before after : Outside) (r : Request) : Type 0 where
-  pub file : Stands (faults r.text) (faults' r.text)
+  pub files : FilesStand faults faults' r
   pub reads : Stands before.reads after.reads
   pub writes : Stands before.writes after.writes
+
+-- all files are told and accepted
+abbrev pub AllAccepted : (List ℕ → Told) → Request → Type 0
+AllAccepted contents r = Each (λ f. IsAccepted (contents f.name) f.kind) (files_of r)

@@ -7,6 +7,8 @@ abbrev pub number_of : Status → ℕ
 number_of status.Done = 0
 number_of status.Words = 2
 number_of status.TextFile = 3
+number_of status.GrammarFile = 4
+number_of status.BracketFile = 5
 number_of status.ReadFault = 6
 number_of status.WriteFault = 7
 number_of status.ScriptFull = 8
@@ -17,6 +19,8 @@ abbrev pub line_about : Status → Option (List ℕ)
 line_about status.Done = None
 line_about status.Words = Some (codes "brackets: words")
 line_about status.TextFile = Some (codes "brackets: text file")
+line_about status.GrammarFile = Some (codes "brackets: grammar file")
+line_about status.BracketFile = Some (codes "brackets: bracket file")
 line_about status.ReadFault = Some (codes "brackets: read fault")
 line_about status.WriteFault = Some (codes "brackets: write fault")
 line_about status.ScriptFull = Some (codes "brackets: script full")

@@ -1,7 +1,9 @@
-//! The program `brackets`: answers a script of questions about the brackets of a text file.
+//! The program `brackets`: answers a script of questions about the brackets and the tokens of a text file.
 #![tactic(auto)]
 
 mod adapters;
+#[cfg(test)]
+mod grammar_tests;
 mod open;
 mod reply_lines;
 mod run;

@@ -1,9 +1,11 @@
-ghost use Rattle.std.specs.Prelude.{◌≡◌, ◌⊎◌, ◌↔◌, ◌<◌, ◌≤◌, ℕ, List, map, length, true, false, None, Some, IfSome, string_bytes, ⊤};
-ghost use Rattle.piece_io.specs.Told.{Holds, risen};
+ghost use Rattle.std.specs.Prelude.{◌≡◌, ◌⊎◌, ◌↔◌, ◌<◌, ◌≤◌, ℕ, List, map, length, None, Some, IfSome, string_bytes, ⊤};
+ghost use Rattle.piece_io.specs.Told.{risen};
+ghost use Rattle.session_defs.specs.declared.file_kind.FileKind.{FileKind};
 ghost use Rattle.session_defs.specs.Words.{request_of};
-ghost use Rattle.session_defs.specs.Output.{is_accepted, most_script_bytes};
+ghost use Rattle.session_defs.specs.Opening.{Inputs, files_of};
+ghost use Rattle.session_defs.specs.Output.{most_script_bytes};
 ghost use Rattle.bracket_program.specs.Ends.{outside};
-ghost use Rattle.bracket_program.specs.Run.{CannotOpen, IsRun, AllStand, AnswersAll, AnswersTaken, Refuses, SameCounts, Stands, WritesSome};
+ghost use Rattle.bracket_program.specs.Run.{AllAccepted, AllStand, AnswersAll, AnswersTaken, CannotOpen, FailedAt, FilesStand, FirstRefused, IsRun, IsUntouched, RefusedAt, SameCounts, Some_, WritesSome, refusal_of};
 
 use crate::open::open_document;
 use crate::serve::serve;
@@ -14,9 +16,9 @@ use std::alloc::Global;
 use std::sync::ledger::Ledger;
 use step_count::Steps;
 
-/// Does all that the program does: reads the text file that the words name, answers the script line by line,
-/// and says how that ended. A file, a script or a sink may tell what it holds or not; what is said of contents
-/// holds where they are told. No step and no mark is counted yet.
+/// Does all that the program does: opens the files that the words name, answers the script line by line, and says how
+/// that ended. A file, a script or a sink may tell what it holds or not; what is said of contents holds where they are
+/// told. No step and no mark is counted yet.
 pub fn run<F: Files, S: Source, K: Sink, L: Ledger, M: Ledger>(
     alloc: Global,
     words: &[String],
@@ -33,17 +35,20 @@ pub fn run<F: Files, S: Source, K: Sink, L: Ledger, M: Ledger>(
         (outside (S.left script.new) (K.held sink.new) (S.faults script.new) (K.faults sink.new))
         (request_of (map string_bytes words.now)) result }
 
-    // The headline: what is written is, line by line, the reply that pairing the whole text anew gives.
+    // The headline: what is written is, line by line, the reply that running the whole text by the grammar's rules from
+    // its first line, and pairing it anew, gives.
     ensures done { result ≡ Status.Done → IfSome (request_of (map string_bytes words.now)) (AnswersAll (F.contents files.old)
         (outside (S.left script.old) (K.held sink.old) (S.faults script.old) (K.faults sink.old))
         (outside (S.left script.new) (K.held sink.new) (S.faults script.new) (K.faults sink.new))) }
 
     // What each other status comes from, and what was written then.
     ensures words { (result ≡ Status.Words) ↔ (request_of (map string_bytes words.now) ≡ None) }
-    ensures text_file { result ≡ Status.TextFile → IfSome (request_of (map string_bytes words.now)) (λ r. Refuses (F.contents files.old r.text)) }
+    ensures refused { (kind : FileKind) → result ≡ refusal_of kind → IfSome (request_of (map string_bytes words.now)) (λ r.
+        RefusedAt (F.contents files.old) kind (files_of r)) }
     ensures read_fault { result ≡ Status.ReadFault → IfSome (request_of (map string_bytes words.now)) (λ r.
-        ((risen (F.faults files.old r.text) ≤ F.faults files.new r.text)
-        × (S.left script.new ≡ S.left script.old) × (K.held sink.new ≡ K.held sink.old))
+        (FailedAt (F.contents files.old) (F.faults files.old) (F.faults files.new) (files_of r) × IsUntouched
+        (outside (S.left script.old) (K.held sink.old) (S.faults script.old) (K.faults sink.old))
+        (outside (S.left script.new) (K.held sink.new) (S.faults script.new) (K.faults sink.new)))
         ⊎ ((risen (S.faults script.old) ≤ S.faults script.new) × AnswersTaken (F.contents files.old)
         (outside (S.left script.old) (K.held sink.old) (S.faults script.old) (K.faults sink.old))
         (outside (S.left script.new) (K.held sink.new) (S.faults script.new) (K.faults sink.new)) (λ _. ⊤) r)) }
@@ -51,40 +56,44 @@ pub fn run<F: Files, S: Source, K: Sink, L: Ledger, M: Ledger>(
     ensures script_full { result ≡ Status.ScriptFull → IfSome (request_of (map string_bytes words.now)) (AnswersTaken (F.contents files.old)
         (outside (S.left script.old) (K.held sink.old) (S.faults script.old) (K.faults sink.old))
         (outside (S.left script.new) (K.held sink.new) (S.faults script.new) (K.faults sink.new)) (λ taken. length taken ≡ most_script_bytes)) }
-    ensures untouched { (result ≡ Status.Words) ⊎ (result ≡ Status.TextFile)
-        → (S.left script.new ≡ S.left script.old) × (K.held sink.new ≡ K.held sink.old) }
+    ensures untouched { (result ≡ Status.Words) ⊎ ((kind : FileKind) × (result ≡ refusal_of kind)) → IsUntouched
+        (outside (S.left script.old) (K.held sink.old) (S.faults script.old) (K.faults sink.old))
+        (outside (S.left script.new) (K.held sink.new) (S.faults script.new) (K.faults sink.new)) }
     ensures front { (result ≡ Status.WriteFault) ⊎ (result ≡ Status.Memory)
         → IfSome (request_of (map string_bytes words.now)) (WritesSome (F.contents files.old)
         (outside (S.left script.old) (K.held sink.old) (S.faults script.old) (K.faults sink.old))
         (outside (S.left script.new) (K.held sink.new) (S.faults script.new) (K.faults sink.new))) }
 
     // When it succeeds, and when each refusal has to come.
-    ensures completes { IfSome (request_of (map string_bytes words.now)) (λ r. (file bytes : List ℕ) → F.contents files.old r.text ≡ Holds file
-        → is_accepted file ≡ true → S.left script.old ≡ Some bytes → length bytes < most_script_bytes
+    ensures completes { IfSome (request_of (map string_bytes words.now)) (λ r. (bytes : List ℕ) → AllAccepted (F.contents files.old) r
+        → S.left script.old ≡ Some bytes → length bytes < most_script_bytes
         → AllStand (F.faults files.old) (F.faults files.new)
         (outside (S.left script.old) (K.held sink.old) (S.faults script.old) (K.faults sink.old))
         (outside (S.left script.new) (K.held sink.new) (S.faults script.new) (K.faults sink.new)) r
         → (result ≡ Status.Done) ⊎ (result ≡ Status.Memory)) }
-    ensures refuses { IfSome (request_of (map string_bytes words.now)) (λ r. (file : List ℕ) → F.contents files.old r.text ≡ Holds file
-        → is_accepted file ≡ false → Stands (F.faults files.old r.text) (F.faults files.new r.text)
-        → (result ≡ Status.TextFile) ⊎ (result ≡ Status.Memory)) }
-    ensures fills { IfSome (request_of (map string_bytes words.now)) (λ r. (file bytes : List ℕ) → F.contents files.old r.text ≡ Holds file
-        → is_accepted file ≡ true → S.left script.old ≡ Some bytes → most_script_bytes ≤ length bytes
+    ensures refuses { (kind : FileKind) → IfSome (request_of (map string_bytes words.now)) (λ r.
+        FirstRefused (F.contents files.old) kind (files_of r) → FilesStand (F.faults files.old) (F.faults files.new) r
+        → (result ≡ refusal_of kind) ⊎ (result ≡ Status.Memory)) }
+    ensures fills { IfSome (request_of (map string_bytes words.now)) (λ r. (bytes : List ℕ) → AllAccepted (F.contents files.old) r
+        → S.left script.old ≡ Some bytes → most_script_bytes ≤ length bytes
         → AllStand (F.faults files.old) (F.faults files.new)
         (outside (S.left script.old) (K.held sink.old) (S.faults script.old) (K.faults sink.old))
         (outside (S.left script.new) (K.held sink.new) (S.faults script.new) (K.faults sink.new)) r
         → (result ≡ Status.ScriptFull) ⊎ (result ≡ Status.Memory)) }
 
     // A fault ends the run.
-    ensures file_rise { IfSome (request_of (map string_bytes words.now)) (λ r. F.faults files.old r.text < F.faults files.new r.text → result ≡ Status.ReadFault) }
+    ensures file_rise { IfSome (request_of (map string_bytes words.now)) (λ r.
+        Some_ (λ f. F.faults files.old f.name < F.faults files.new f.name) (files_of r) → result ≡ Status.ReadFault) }
     ensures script_rise { S.faults script.old < S.faults script.new → result ≡ Status.ReadFault }
     ensures sink_rise { K.faults sink.old < K.faults sink.new → result ≡ Status.WriteFault }
 
-    // But at a read fault no read of any file failed; and where the text file cannot be opened, no script is read
+    // But at a read fault no read of any file failed; and where a file that is named cannot be opened, no script is read
     // and nothing is written.
     ensures files_stand { ¬ (result ≡ Status.ReadFault) → SameCounts (F.faults files.old) (F.faults files.new) }
-    ensures unopened { IfSome (request_of (map string_bytes words.now)) (λ r. CannotOpen (F.contents files.old r.text)
-        → (S.left script.new ≡ S.left script.old) × (K.held sink.new ≡ K.held sink.old)) }
+    ensures unopened { IfSome (request_of (map string_bytes words.now)) (λ r.
+        Some_ (λ f. CannotOpen (F.contents files.old f.name) f.kind) (files_of r) → IsUntouched
+        (outside (S.left script.old) (K.held sink.old) (S.faults script.old) (K.faults sink.old))
+        (outside (S.left script.new) (K.held sink.new) (S.faults script.new) (K.faults sink.new))) }
 
     ensures contents { (q : List ℕ) → F.contents files.new q ≡ F.contents files.old q }
     ensures steps { steps.new ≡ steps.old }
@@ -107,10 +116,10 @@ fn run_to_end<F: Files, S: Source, K: Sink>(
         (request_of (map string_bytes words.now)) result }
     ensures contents { (q : List ℕ) → F.contents files.new q ≡ F.contents files.old q }
 {
-    let Some((name, limits)) = read_words(words) else {
+    let Some(request) = read_words(words) else {
         return Status::Words;
     };
-    match open_document(alloc, files, name, limits) {
+    match open_document(alloc, files, &request) {
         Ok(mut document) => match serve(alloc, &mut document, script, sink) {
             Ok(()) => Status::Done,
             Err(status) => status,

@@ -2,10 +2,12 @@ ghost use Rattle.std.specs.Prelude.{◌≡◌, ◌≤◌, ◌<◌, ◌+◌, leng
 ghost use Rattle.piece_io.specs.Told.{GivesFront, risen};
 ghost use Rattle.session_defs.specs.Session.{opened};
 ghost use Rattle.bracket_program.specs.Ends.{IsDone, IsEnd, outside};
+ghost use Rattle.bracket_program.specs.Sessions.{session_in};
 
 use crate::reply_lines::{reply_to_lines, write_reply};
 use crate::status::Status;
 use document::Document;
+use line_machine::Machine;
 use piece_io::whole::PIECE;
 use piece_io::{Failed, LineCutter, Sink, Source};
 use script_words::Reply;
@@ -15,14 +17,14 @@ use std::alloc::{AllocError, Global};
 /// Answers the whole script: the open reply, and then each line as it comes.
 pub fn serve<S: Source, K: Sink>(
     alloc: Global,
-    document: &mut Document,
+    document: &mut Document<Machine>,
     script: &mut S,
     sink: &mut K,
 ) -> Result<(), Status>
     ensures done { OnOk result (IsDone (outside (S.left script.old) (K.held sink.old) (S.faults script.old) (K.faults sink.old))
-        (outside (S.left script.new) (K.held sink.new) (S.faults script.new) (K.faults sink.new)) document.old.settings document.old.text) }
+        (outside (S.left script.new) (K.held sink.new) (S.faults script.new) (K.faults sink.new)) (session_in document.old)) }
     ensures ends { IfErr result (IsEnd (outside (S.left script.old) (K.held sink.old) (S.faults script.old) (K.faults sink.old))
-        (outside (S.left script.new) (K.held sink.new) (S.faults script.new) (K.faults sink.new)) document.old.settings document.old.text) }
+        (outside (S.left script.new) (K.held sink.new) (S.faults script.new) (K.faults sink.new)) (session_in document.old)) }
     ensures reads_never_fall { S.faults script.old ≤ S.faults script.new }
     ensures writes_never_fall { K.faults sink.old ≤ K.faults sink.new }
 {
@@ -62,13 +64,13 @@ fn read_piece<S: Source>(script: &mut S, buffer: &mut [u8], room: usize) -> Resu
     Ok(come)
 }
 
-/// The open reply. Without a grammar all patterns were read.
-fn opened(document: &Document) -> Reply
-    ensures { result ≡ opened document.now.text }
+/// The open reply.
+fn opened(document: &Document<Machine>) -> Reply
+    ensures { result ≡ opened (session_in document.now) }
 {
     Reply::Opened {
         lines: document.text().lines(),
-        unread: 0,
+        unread: document.machine().unread(),
     }
 }
 

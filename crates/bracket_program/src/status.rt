@@ -12,6 +12,10 @@ pub enum Status {
     Words,
     /// The text file is too large or no UTF-8, or has too many characters or lines.
     TextFile,
+    /// The grammar file is too large, or no grammar.
+    GrammarFile,
+    /// The bracket file is too large, or has no pairs of brackets.
+    BracketFile,
     /// A file or the script could not be read.
     ReadFault,
     /// The replies could not be written.
@@ -34,6 +38,8 @@ impl Status {
             Status::Done => 0,
             Status::Words => 2,
             Status::TextFile => 3,
+            Status::GrammarFile => 4,
+            Status::BracketFile => 5,
             Status::ReadFault => 6,
             Status::WriteFault => 7,
             Status::ScriptFull => 8,
@@ -49,6 +55,8 @@ impl Status {
             Status::Done => None,
             Status::Words => Some("brackets: words"),
             Status::TextFile => Some("brackets: text file"),
+            Status::GrammarFile => Some("brackets: grammar file"),
+            Status::BracketFile => Some("brackets: bracket file"),
             Status::ReadFault => Some("brackets: read fault"),
             Status::WriteFault => Some("brackets: write fault"),
             Status::ScriptFull => Some("brackets: script full"),

@@ -31,21 +31,27 @@ fn run_case(
 ) -> Result<(Status, MemSink), AllocError> {
     let mut script = MemSource::new(alloc, case.script, 65_536, failing_reads)?;
     let mut sink = MemSink::new(alloc, 1 << 20, 65_536, failing_writes)?;
-    let status = run_over(alloc, case.words, case.text, &mut script, &mut sink)?;
+    let mut files = files_with(alloc, case.text)?;
+    let status = run_over(alloc, case.words, &mut files, &mut script, &mut sink)?;
     Ok((status, sink))
 }
 
-fn run_over<S: Source, K: Sink>(
-    alloc: Global,
-    words: &[&str],
-    text: Option<&[u8]>,
-    script: &mut S,
-    sink: &mut K,
-) -> Result<Status, AllocError> {
+/// The file `text`, where there is one.
+fn files_with(alloc: Global, text: Option<&[u8]>) -> Result<MemFiles, AllocError> {
     let mut files = MemFiles::new(alloc, &[])?;
     if let Some(bytes) = text {
         files.put("text", bytes)?;
     }
+    Ok(files)
+}
+
+pub(crate) fn run_over<S: Source, K: Sink>(
+    alloc: Global,
+    words: &[&str],
+    files: &mut MemFiles,
+    script: &mut S,
+    sink: &mut K,
+) -> Result<Status, AllocError> {
     let mut named = Vec::new(alloc);
     named.push(String::from_str(alloc, "brackets")?)?;
     for word in words {
@@ -54,7 +60,7 @@ fn run_over<S: Source, K: Sink>(
     let words = named.as_slice();
     let (steps, marks) = (Blank::new(1), Blank::new(1));
     let status = run_counted::<Brand, Brand, S, K>(
-        alloc, words, &mut files, script, sink, steps, marks,
+        alloc, words, files, script, sink, steps, marks,
     );
     Ok(status)
 }
@@ -80,7 +86,7 @@ fn run_counted<L: Ledger, M: Ledger, S: Source, K: Sink>(
     run(alloc, words, files, script, sink, &mut steps, &mut marks)
 }
 
-const CASES: [Case<'static>; 20] = [
+const CASES: [Case<'static>; 25] = [
     // An empty file is one empty line.
     Case {
         words: &["text"],
@@ -225,6 +231,43 @@ const CASES: [Case<'static>; 20] = [
         script: b"",
         wrote: b"",
         status: Status::Words,
+    },
+    Case {
+        words: &["text", "--tab", "4", "--tab", "4"],
+        text: Some(b"a"),
+        script: b"",
+        wrote: b"",
+        status: Status::Words,
+    },
+    Case {
+        words: &["text", "--grammar="],
+        text: Some(b"a"),
+        script: b"",
+        wrote: b"",
+        status: Status::Words,
+    },
+    Case {
+        words: &["text", "--colour", "4"],
+        text: Some(b"a"),
+        script: b"",
+        wrote: b"",
+        status: Status::Words,
+    },
+    // A tab of one column.
+    Case {
+        words: &["text", "--tab", "1"],
+        text: Some(b"\t(\n\ta\n\t)"),
+        script: b"{\"guides\":[0,2]}\n",
+        wrote: b"{\"opened\":3,\"unread\":0}\n{\"guides\":[[1,1,0],[2,1,0]]}\n",
+        status: Status::Done,
+    },
+    // Without a grammar a line is one token without scopes, an empty one too.
+    Case {
+        words: &["text"],
+        text: Some(b"a b\n"),
+        script: b"{\"tokens\":0}\n{\"tokens\":1}\n{\"tokens\":2}\n",
+        wrote: b"{\"opened\":2,\"unread\":0}\n{\"tokens\":[[0,3,[],0]]}\n{\"tokens\":[[0,0,[],0]]}\n{\"refused\":\"line\"}\n",
+        status: Status::Done,
     },
     // Zeros in front of a number are read.
     Case {
@@ -439,7 +482,8 @@ impl Source for Spaces {
 #[test]
 fn endless_script_is_full(rt: HostRuntime) -> Result<(), Fail> {
     let mut sink = MemSink::new(rt.alloc(), 1 << 20, 65_536, &[])?;
-    let status = run_over(rt.alloc(), &["text"], Some(b"a"), &mut Spaces, &mut sink)?;
+    let mut files = files_with(rt.alloc(), Some(b"a"))?;
+    let status = run_over(rt.alloc(), &["text"], &mut files, &mut Spaces, &mut sink)?;
     assert_eq!(rt; status, Status::ScriptFull);
     assert_eq!(rt; sink.bytes(), b"{\"opened\":1,\"unread\":0}\n".as_slice());
     Ok(())

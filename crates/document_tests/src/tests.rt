@@ -29,7 +29,7 @@ fn small_grammar(alloc: Global) -> Result<Machine, AllocError> {
     if !has_root(&table) {
         return Err(AllocError);
     }
-    Machine::new(alloc, table, "s", LIMITS)
+    Machine::new(alloc, table, "s", 0, LIMITS)
 }
 
 fn by_grammar(alloc: Global, text: &[u8], steps: &[Step<'_>]) -> Result<bool, AllocError> {

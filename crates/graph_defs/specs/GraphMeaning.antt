@@ -1,5 +1,6 @@
--- What a grammar is to a run over a line: its rules with their active lists, the most groups of a pattern, and how many
--- of its pattern texts can't be read; or that its active lists are too long, which is this project's own.
+-- What a grammar is to a run over a line: its rules with their active lists, its injections, the most groups of a
+-- pattern, and how many of its pattern texts and of its injections' keys can't be read; or that its active lists are too
+-- long, which is this project's own.
 use Rattle.std.specs.Prelude.{ℕ, ◌+◌, max, List, [], ◌∷◌, ◌++◌, map, length, nat_lt, Bool, not, Option}
 use Rattle.std.specs.Prelude.{Some, None, option_to_list, is_some}
 use Rattle.std.specs.List.{count_by, filter, find}
@@ -7,8 +8,10 @@ use Rattle.canonical_patterns.specs.ReadTrees.{read_tree}
 use Rattle.rule_defs.specs.Rules.{Slot, Never, Read, Later, Rule}
 use Rattle.grammar_defs.specs.FileRules.{Texts, FileList, absent, nothing, include, rule, capture, NamedRule}
 use Rattle.grammar_defs.specs.FileRules.{Grammar, placed}
+use Rattle.injection_defs.specs.Injections.{Listed}
 use Rattle.graph_defs.specs.declared.limits.TheConstants.{MOST_ACTIVE}
 use Rattle.graph_defs.specs.Slots.{is_later}
+use Rattle.graph_defs.specs.ListedInjections.{injections, unread_keys}
 use Rattle.graph_defs.specs.ListedRules.{listed_rules}
 use Rattle.graph_defs.specs.ActiveLists.{active_rules}
 
@@ -55,8 +58,11 @@ all_texts g = texts_of g.patterns ++ (named_texts g.repository ++ named_texts g.
 abbrev pub is_unread : List ℕ → Bool
 is_unread text = not (is_some (read_tree text))
 
+abbrev pub unread_texts : Grammar → ℕ
+unread_texts g = count_by is_unread (all_texts g)
+
 abbrev pub unread : Grammar → ℕ
-unread g = count_by is_unread (all_texts g)
+unread g = unread_texts g + unread_keys g.injections
 
 -- the sums of the first lengths, each with the sum before it
 abbrev pub sums_from : ℕ → List ℕ → List ℕ
@@ -69,6 +75,7 @@ over_limit rules = find (nat_lt MOST_ACTIVE) (sums_from 0 (map (λ r. length r.a
 
 pub record FileGraph : Type 0 where
   pub rules : List Rule
+  pub injections : List Listed
   pub groups : ℕ
   pub unread : ℕ
 
@@ -79,6 +86,7 @@ pub data GraphReading : Type 0 where
 abbrev pub graph_of : Grammar → FileGraph
 graph_of g = record {
   rules = active_rules (listed_rules g);
+  injections = injections g;
   groups = most_groups (active_rules (listed_rules g));
   unread = unread g;
 }

@@ -3,5 +3,7 @@ pub mod Examples
 pub mod FileExamples
 pub mod GraphMeaning
 pub mod Includes
+pub mod InjectionExamples
+pub mod ListedInjections
 pub mod ListedRules
 pub mod Slots

@@ -8,11 +8,13 @@ use Rattle.line_defs.specs.Line.{tokenised, no_grammar}
 use Rattle.line_runs.specs.Runs.{Runs}
 use Rattle.line_turns.specs.Over.{machine_of}
 
--- the rules of a grammar or none, the limits, the start, and how many runs were made
+-- the rules of a grammar or none, the limits, the start, how many texts of patterns can't be read, and how many runs
+-- were made
 pub record MachineState : Type 0 where
   pub table : Option Table
   pub limits : Limits
   pub start : Start
+  pub unread : ℕ
   pub runs : ℕ
 
 abbrev pub line_machine_of : Option Table → Limits → LineMachine

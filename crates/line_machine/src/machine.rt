@@ -72,6 +72,7 @@ pub struct Machine {
     grammar: Option<Grammar>,
     limits: Limits,
     start: State,
+    unread: u32,
     runs: u64,
     /// Room for a line with a line feed at its end.
     text: Vec<char>,
@@ -118,21 +119,22 @@ impl Model for Machine {
 
     ghost use Rattle.line_machine.specs.Grammars.{table_in, IsMachine};
 
-    ghost view = { λ m. record { table = table_in m.grammar; limits = m.limits; start = m.start; runs = m.runs } };
+    ghost view = { λ m. record { table = table_in m.grammar; limits = m.limits; start = m.start; unread = m.unread; runs = m.runs } };
 
     ghost invariant = { IsMachine };
 }
 
 impl Machine {
-    /// A machine of the rules of a grammar with a scope name.
+    /// A machine of the rules of a grammar with a scope name, of whose texts of patterns so many can't be read.
     pub fn new(
         alloc: Global,
         table: RuleTable,
         scope_name: &str,
+        unread: u32,
         limits: Limits,
     ) -> Result<Machine, AllocError>
         requires top { kind_at table 0 ≢ BeginEnd }
-        ensures { IfOk result (λ m. m ≡ record { table = Some table; limits = limits; start = start_of scope_name.now; runs = 0 }) }
+        ensures { IfOk result (λ m. m ≡ record { table = Some table; limits = limits; start = start_of scope_name.now; unread = unread; runs = 0 }) }
     {
         let start = start_of(alloc, scope_name)?;
         let table = Rc::new(alloc, table)?;
@@ -142,6 +144,7 @@ impl Machine {
             grammar: Some(Grammar { table, searcher }),
             limits,
             start,
+            unread,
             runs: 0,
             text: Vec::new(alloc),
         })
@@ -149,16 +152,24 @@ impl Machine {
 
     /// A machine without a grammar: a line is one token without scopes.
     pub fn plain(alloc: Global, limits: Limits) -> Result<Machine, AllocError>
-        ensures { IfOk result (λ m. m ≡ record { table = None; limits = limits; start = start_of []; runs = 0 }) }
+        ensures { IfOk result (λ m. m ≡ record { table = None; limits = limits; start = start_of []; unread = 0; runs = 0 }) }
     {
         Ok(Machine {
             alloc,
             grammar: None,
             limits,
             start: start_of(alloc, "")?,
+            unread: 0,
             runs: 0,
             text: Vec::new(alloc),
         })
+    }
+
+    /// How many texts of patterns of its grammar can't be read.
+    pub fn unread(&self) -> u32
+        ensures { result ≡ self.now.unread }
+    {
+        self.unread
     }
 
     /// The result of a line.

@@ -5,8 +5,12 @@
 #[cfg(test)]
 mod grammars;
 #[cfg(test)]
+mod injections;
+#[cfg(test)]
 mod limits;
 mod lines;
 pub mod rows;
 #[cfg(test)]
 mod tests;
+#[cfg(test)]
+mod worked;

@@ -7,7 +7,8 @@ ghost use Rattle.line_search.specs.Machines.{kind_at};
 
 use onig_parse::PatternReader;
 use rule_table::{
-    Rule, RuleCapture, RuleCaptures, RuleId, RuleIds, RuleKind, RuleTable, ScopeText, Slot,
+    Injections, Rule, RuleCapture, RuleCaptures, RuleId, RuleIds, RuleKind, RuleTable, ScopeText,
+    Slot,
 };
 use std::alloc::{AllocError, Global};
 use std::rc::Rc;
@@ -161,7 +162,7 @@ pub fn table(alloc: Global, rows: &[Row<'_>]) -> Result<RuleTable, AllocError>
     for row in rows {
         rules.push(rule(alloc, &mut reader, row, count)?)?;
     }
-    Ok(RuleTable::of(rules, GROUPS))
+    Ok(RuleTable::of(rules, Injections::new(alloc), GROUPS))
 }
 
 /// Whether the top is no begin/end rule.

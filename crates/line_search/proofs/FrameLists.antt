@@ -33,7 +33,7 @@ rule_is : (machine : Machine) (rules : List Rule) (id : ℕ) (rule : Rule) → m
 rule_is machine rules id rule same there =
     ap (λ rs. unwrap_or (slice_get rs id) no_rule) same ∙ ap (λ o. unwrap_or o no_rule) there
 
-rules_early : (machine : Machine) (rules : List Rule) (active : List ℕ) → machine.rules ≡ rules →
+pub rules_early : (machine : Machine) (rules : List Rule) (active : List ℕ) → machine.rules ≡ rules →
     rule_choices machine active ≡ rule_choices (early rules) active
 rules_early machine rules active same =
     ap (λ rs. flat_map (λ number. choice_of (OfRule number)

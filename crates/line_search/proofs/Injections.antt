@@ -7,7 +7,7 @@ use Rattle.line_defs.specs.Runs.{State}
 use Rattle.line_defs.specs.Search.{Found, Nothing, OutOfBudget, At, Sight, sight, ordinary}
 use Rattle.line_defs.specs.Injections.{Keeps, injected, decided, with_injections, search}
 
-keeps_none : (ordinary : Found) → decided ordinary (Keeps None) ≡ ordinary
+pub keeps_none : (ordinary : Found) → decided ordinary (Keeps None) ≡ ordinary
 keeps_none Nothing = refl
 keeps_none OutOfBudget = refl
 keeps_none (At m) = refl

@@ -6,3 +6,4 @@ pub mod Rooms
 pub mod Scans
 pub mod Tables
 pub mod Ties
+pub mod Injecting

@@ -42,3 +42,9 @@ abbrev pub IfAt : Find → (Match → Type 0) → Type 0
 IfAt find.Nothing P = Unit {0}
 IfAt find.Spent P = Unit {0}
 IfAt (find.At m) P = P m
+
+-- a fact where nothing is found
+abbrev pub IfNothing : Find → Type 0 → Type 0
+IfNothing find.Nothing P = P
+IfNothing find.Spent P = Unit {0}
+IfNothing (find.At m) P = Unit {0}

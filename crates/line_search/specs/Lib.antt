@@ -1,7 +1,10 @@
+pub mod Asking
+pub mod Bests
 pub mod Choices
 pub mod Finds
 pub mod Late
 pub mod Lists
 pub mod Machines
+pub mod Prepared
 pub mod Scanners
 pub mod Searchers

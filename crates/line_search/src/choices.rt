@@ -5,7 +5,7 @@ ghost use Rattle.std.specs.Rc.{rc_value};
 ghost use Rattle.canonical_patterns.specs.Canonical.{AreCodes};
 ghost use Rattle.line_search.specs.Choices.{choice_of_owned, tree_of_owned, first_place, is_before};
 ghost use Rattle.line_search.specs.Choices.{HaveRoom, HaveOwners};
-ghost use Rattle.line_search.specs.Finds.{found_of, IfAt, IsOwner, IsPartFrom};
+ghost use Rattle.line_search.specs.Finds.{found_of, IfAt, IfNothing, IsOwner, IsPartFrom};
 
 use crate::find::{Find, Match, Of};
 use onig_match::Work;
@@ -115,6 +115,7 @@ impl Choices {
         ensures inside { IfSome result.place (λ place. (from ≤ place) × (place ≤ length text.now)) }
         ensures part { IfAt result.find (IsPartFrom from (length text.now) work.new.hit) }
         ensures owner { (rules : ℕ) → HaveOwners rules self.now → IfAt result.find (λ m. IsOwner rules m.of) }
+        ensures stays { IfNothing result.find (work.new.hit ≡ work.old.hit) }
     {
         has_codes(text);
         match self.scanner.find(work, text, from, flags) {

@@ -1,8 +1,9 @@
-//! The search of a run over a line: what the patterns of a frame find from a place on.
+//! The search of a run over a line: what the patterns of a frame and the injections that hold find from a place on.
 #![tactic(auto)]
 
 mod choices;
 pub mod find;
+mod injected;
 mod late;
 mod lists;
 pub mod searcher;

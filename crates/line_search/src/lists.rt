@@ -44,7 +44,11 @@ fn push_end(all: &mut Vec<Owned>, rule: &Rule, last: bool) -> Result<(), AllocEr
 }
 
 /// Adds the patterns of rules.
-fn push_rules(all: &mut Vec<Owned>, table: &RuleTable, ids: &[RuleId]) -> Result<(), AllocError>
+pub(crate) fn push_rules(
+    all: &mut Vec<Owned>,
+    table: &RuleTable,
+    ids: &[RuleId],
+) -> Result<(), AllocError>
     requires { All (λ id. id.0 < length table.now.rules) ids.now }
     ensures rules { OnOk result (map choice_of_owned all.new.items
         ≡ map choice_of_owned all.old.items ++ rule_choices (early table.now.rules) (map (λ id. id.0) ids.now)) }

@@ -1,17 +1,21 @@
-ghost use Rattle.std.specs.Prelude.{◌≡◌, ℕ, ◌<◌, ◌≤◌, ◌^◌, length, IfOk};
+ghost use Rattle.std.specs.Prelude.{◌≡◌, ℕ, ◌<◌, ◌≤◌, ◌^◌, ◌↔◌, length, IfOk, IsTrue};
 ghost use Rattle.std.specs.Rc.{rc_value};
 ghost use Rattle.rule_defs.specs.Rules.{BeginWhile};
 ghost use Rattle.line_defs.specs.Machine.{Machine};
 ghost use Rattle.line_defs.specs.Search.{choices, finish_choice, in_order, scan};
+ghost use Rattle.line_defs.specs.Injections.{with_injections};
 ghost use Rattle.rule_table.specs.Fits.{HasRoom};
 ghost use Rattle.rule_table.specs.Views.{slot_of};
 ghost use Rattle.line_search.specs.Choices.{HaveRoom, HaveOwners};
 ghost use Rattle.line_search.specs.Lists.{late_choice};
 ghost use Rattle.line_search.specs.Finds.{found_of, IfAt, IsOwner, IsPartFrom};
 ghost use Rattle.line_search.specs.Machines.{IsOf, kind_at};
+ghost use Rattle.line_search.specs.declared.find.Find.TheVariants.{Spent};
+ghost use Rattle.line_search.specs.Prepared.{HasInjections};
 
 use crate::choices::{Choices, find_in_two};
 use crate::find::Find;
+use crate::injected::{Bests, Injected};
 use crate::late::LateEnd;
 use crate::lists::{RuleLists, lists_of};
 use onig_match::Work;
@@ -29,6 +33,7 @@ pub struct Searcher {
     table: Rc<RuleTable>,
     lists: Vec<RuleLists>,
     late: LateEnd,
+    injected: Injected,
 }
 
 impl Model for Searcher {
@@ -82,6 +87,12 @@ fn find_with_late(
     }
 }
 
+fn is_spent(find: Find) -> bool
+    ensures { IsTrue result ↔ (find ≡ Spent) }
+{
+    matches!(find, Find::Spent)
+}
+
 impl Searcher {
     pub fn new(alloc: Global, table: Rc<RuleTable>) -> Result<Searcher, AllocError>
         ensures { IfOk result (λ s. s ≡ rc_value table) }
@@ -91,7 +102,13 @@ impl Searcher {
             lists.push(lists_of(alloc, &table, RuleId(id))?)?;
         }
         let late = LateEnd::none(alloc)?;
-        Ok(Searcher { table, lists, late })
+        let injected = Injected::of(alloc, &table)?;
+        Ok(Searcher {
+            table,
+            lists,
+            late,
+            injected,
+        })
     }
 
     /// The rules.
@@ -147,6 +164,52 @@ impl Searcher {
                 flags,
             ),
             _ => Ok(lists.inside.find(work, text, from, flags).find),
+        }
+    }
+
+    /// What a turn finds from a place on: the first match of the patterns of a frame, or one of an injection that holds of
+    /// the frame's content scopes and starts earlier, or at the same place where it goes first.
+    pub fn search(
+        &mut self,
+        work: &mut Work,
+        frame: &Frame,
+        text: &[char],
+        from: u32,
+        flags: Flags,
+    ) -> Result<Find, AllocError>
+        requires short { length text.now < 2 ^ 31 }
+        requires inside { from ≤ length text.now }
+        requires room { self.old.groups ≤ work.old.room }
+        ensures same { self.new ≡ self.old }
+        ensures budget { work.new.budget ≡ work.old.budget }
+        ensures room { work.new.room ≡ work.old.room }
+        ensures found { IfOk result (λ find. (machine : Machine) → IsOf self.old machine →
+            HasInjections self.old machine → found_of find work.new.hit ≡ with_injections machine
+            (record { text = text.now; place = from; flags = flags; budget = work.old.budget }) frame.now.content
+            (scan (record { text = text.now; place = from; flags = flags; budget = work.old.budget })
+            (choices machine frame.now))) }
+        ensures part { IfOk result (λ find. IfAt find (IsPartFrom from (length text.now) work.new.hit)) }
+        ensures owner { IfOk result (λ find. IfAt find (λ m. IsOwner (length self.old.rules) m.of)) }
+    {
+        let ordinary = self.ordinary(work, frame, text, from, flags)?;
+        if self.injected.is_empty() {
+            return Ok(ordinary);
+        }
+        if is_spent(ordinary) {
+            return Ok(ordinary);
+        }
+        match self.injected.best(work, &frame.content, text, from, flags)? {
+            Bests::Spent => Ok(Find::Spent),
+            Bests::Kept(None) => Ok(ordinary),
+            Bests::Kept(Some(best)) => {
+                if self.injected.wins(best, ordinary) {
+                    return Ok(self.injected.again(best, work, text, flags));
+                }
+                match ordinary {
+                    Find::At(m) => self.ordinary(work, frame, text, m.from, flags),
+                    other => Ok(other),
+                }
+            }
         }
     }
 

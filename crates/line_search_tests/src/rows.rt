@@ -3,7 +3,7 @@ ghost use Rattle.rule_table.specs.Fits.{HasRoom, IsRule};
 ghost use Rattle.rule_table.specs.Views.{rule_of, slot_of};
 
 use onig_parse::PatternReader;
-use rule_table::{Rule, RuleCaptures, RuleId, RuleIds, RuleKind, RuleTable, Slot};
+use rule_table::{Injections, Rule, RuleCaptures, RuleId, RuleIds, RuleKind, RuleTable, Slot};
 use std::alloc::{AllocError, Global};
 use std::rc::Rc;
 use text_pos::Name;
@@ -114,5 +114,5 @@ pub(crate) fn table(alloc: Global, rows: &[Row]) -> Result<Rc<RuleTable>, AllocE
     for row in rows {
         rules.push(rule(alloc, &mut reader, row, count)?)?;
     }
-    Ok(Rc::new(alloc, RuleTable::of(rules, GROUPS))?)
+    Ok(Rc::new(alloc, RuleTable::of(rules, Injections::new(alloc), GROUPS))?)
 }

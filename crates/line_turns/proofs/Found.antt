@@ -10,36 +10,27 @@ use Rattle.scope_defs.specs.declared.types.RuleId.{RuleId}
 use Rattle.line_search.specs.declared.find.Of.TheVariants as of
 use Rattle.line_search.specs.declared.find.Match.{Match}
 use Rattle.line_search.specs.Finds.{owner_of}
+use Rattle.injection_defs.specs.Injections.{injections_of}
 use Rattle.line_search.specs.Machines.{IsOf}
+use Rattle.line_search.specs.Prepared.{HasInjections}
 use Rattle.line_defs.specs.Tokens.{spent}
 use Rattle.rule_defs.specs.Rules.{Rule, no_rule}
 use Rattle.rule_table.specs.Views.{Table}
 use Rattle.line_defs.specs.Machine.{Machine, rule_at}
 use Rattle.line_defs.specs.Runs.{State, Turned, rest}
 use Rattle.line_defs.specs.Search.{Found, Nothing, OutOfBudget, At, OfEnd, Sight, Matched}
-use Rattle.line_defs.specs.Search.{scan, sight, choices, ordinary, mark}
-use Rattle.line_defs.specs.Injections.{with_injections}
+use Rattle.line_defs.specs.Search.{scan, sight, choices, mark}
+use Rattle.line_defs.specs.Injections.{with_injections, search}
 use Rattle.line_defs.specs.Turns.{Run, turn, turn_by, matched, end_found, rule_found}
-use Rattle.line_laws.proofs.Found.{MayBe, IsThere, IfAt, scan-there, choices-may_be}
+use Rattle.line_laws.proofs.Found.{MayBe, IsThere, IfAt, search-there}
 use Rattle.line_turns.specs.Over.{machine_of, machine_over, run_of}
 use Rattle.line_turns.specs.Then.{matched_of}
 use Rattle.line_turns.specs.declared.over.Over.{Over}
 
--- without injections the ordinary patterns decide
-without : (table : Table) (limits : Limits) (s : Sight) (scopes : Scopes) (found : Found)
-    → with_injections (machine_of table limits) s scopes found ≡ found
-without table limits s scopes Nothing = refl
-without table limits s scopes OutOfBudget = refl
-without table limits s scopes (At m) = refl
-
 pub turn-found : (over : Over) (levels : ℕ) (state : State) (found : Found)
-    → found ≡ ordinary (machine_of over.table.now over.limits) over.text.now state
+    → found ≡ search (machine_of over.table.now over.limits) over.text.now state
     → turn_by found (run_of over levels) state ≡ turn (run_of over levels) state
-turn-found over levels state found is =
-    ap (λ f. turn_by f (run_of over levels) state)
-    (rw is (sym (without over.table.now over.limits
-    (sight (machine_of over.table.now over.limits) over.text.now state) state.stack.top.content
-    (ordinary (machine_of over.table.now over.limits) over.text.now state))))
+turn-found over levels state found is = ap (λ f. turn_by f (run_of over levels) state) is
 
 -- an end is found only where the rule of the frame is there
 may-be-there : (rules : List Rule) (number : ℕ) → MayBe (unwrap_or (slice_get rules number) no_rule).kind OfEnd
@@ -57,49 +48,50 @@ end-of machine place chars state m there is =
     (subst (λ of. MayBe (rule_at machine state.stack.top.rule).kind of) is there.of)
 
 pub end-there : (machine : Machine) (text : List ℕ) (state : State) (m : Matched) → state.place ≤ length text
-    → At m ≡ ordinary machine text state → m.of ≡ OfEnd → state.stack.top.rule < length machine.rules
+    → At m ≡ search machine text state → m.of ≡ OfEnd → state.stack.top.rule < length machine.rules
 end-there machine text state m inside is of =
     end-of machine state.place (length text) state m
     (subst (λ f. IfAt (rule_at machine state.stack.top.rule).kind state.place (length text) f) (sym is)
-    (scan-there (rule_at machine state.stack.top.rule).kind (sight machine text state)
-    (choices machine state.stack.top) (choices-may_be machine state.stack.top) inside)) of
+    (search-there machine text state inside)) of
 
 -- the search of code is that of the definition
-pub found-ordinary : (over : Over) (searcher : Table) (state st : State) (flags : Flags) (budget : ℕ) (frame : Frame)
+pub found-search : (over : Over) (searcher : Table) (state st : State) (flags : Flags) (budget : ℕ) (frame : Frame)
     (found : Found)
-    → ((machine : Machine) → IsOf searcher machine
-    → found ≡ scan (record { text = over.text.now; place = st.place; flags = flags; budget = budget })
-    (choices machine frame))
+    → ((machine : Machine) → IsOf searcher machine → HasInjections searcher machine
+    → found ≡ with_injections machine
+    (record { text = over.text.now; place = st.place; flags = flags; budget = budget }) frame.content
+    (scan (record { text = over.text.now; place = st.place; flags = flags; budget = budget })
+    (choices machine frame)))
     → searcher ≡ over.table.now → st ≡ state → flags ≡ record { first = state.first; anchor = mark state }
     → budget ≡ over.limits.budget → frame ≡ st.stack.top
-    → found ≡ ordinary (machine_over over) over.text.now state
-found-ordinary over searcher state st flags budget frame found finds same st-is flags-is budget-is frame-is =
+    → found ≡ search (machine_over over) over.text.now state
+found-search over searcher state st flags budget frame found finds same st-is flags-is budget-is frame-is =
     let machine : Machine = machine_over over in
     let is_of : IsOf searcher machine = record { rules = ap (λ t. t.rules) (sym same); reader = refl } in
-    finds machine is_of
-    ∙ ap (λ p. scan (record { text = over.text.now; place = p; flags = flags; budget = budget })
-    (choices machine frame)) (ap (λ s. s.place) st-is)
-    ∙ ap (λ f. scan (record { text = over.text.now; place = state.place; flags = f; budget = budget })
-    (choices machine frame)) flags-is
-    ∙ ap (λ b. scan (record {
+    let has : HasInjections searcher machine = ap (λ t. injections_of t.rules t.injections) (sym same) in
+    let beside : Sight → Frame → Found = λ s f. with_injections machine s f.content (scan s (choices machine f)) in
+    finds machine is_of has
+    ∙ ap (λ p. beside (record { text = over.text.now; place = p; flags = flags; budget = budget }) frame)
+    (ap (λ s. s.place) st-is)
+    ∙ ap (λ f. beside (record { text = over.text.now; place = state.place; flags = f; budget = budget }) frame) flags-is
+    ∙ ap (λ b. beside (record {
       text = over.text.now;
       place = state.place;
       flags = record { first = state.first; anchor = mark state };
       budget = b;
-    }) (choices machine frame)) budget-is
-    ∙ ap (λ f. scan (sight machine over.text.now state) (choices machine f))
-    (frame-is ∙ ap (λ s. s.stack.top) st-is)
+    }) frame) budget-is
+    ∙ ap (beside (sight machine over.text.now state)) (frame-is ∙ ap (λ s. s.stack.top) st-is)
 
 module _ (over : Over) (levels : ℕ) (state : State) where
-  pub turn-nothing : Nothing ≡ ordinary (machine_over over) over.text.now state
+  pub turn-nothing : Nothing ≡ search (machine_over over) over.text.now state
       → rest over.text.now state ≡ turn (run_of over levels) state
   turn-nothing is = turn-found over levels state Nothing is
 
-  pub turn-spent : OutOfBudget ≡ ordinary (machine_over over) over.text.now state
+  pub turn-spent : OutOfBudget ≡ search (machine_over over) over.text.now state
       → rest over.text.now (record state { out = spent state.out }) ≡ turn (run_of over levels) state
   turn-spent is = turn-found over levels state OutOfBudget is
 
-  pub turn-end : (m : Match) (hit : Captures) → At (matched_of m hit) ≡ ordinary (machine_over over) over.text.now state
+  pub turn-end : (m : Match) (hit : Captures) → At (matched_of m hit) ≡ search (machine_over over) over.text.now state
       → m.of ≡ of.End
       → end_found (run_of over levels) (matched_of m hit) state ≡ turn (run_of over levels) state
   turn-end m hit is end =
@@ -107,7 +99,7 @@ module _ (over : Over) (levels : ℕ) (state : State) where
       ∙ turn-found over levels state (At (matched_of m hit)) is
 
   pub turn-rule : (m : Match) (hit : Captures) (id : RuleId)
-      → At (matched_of m hit) ≡ ordinary (machine_over over) over.text.now state → m.of ≡ of.Rule id
+      → At (matched_of m hit) ≡ search (machine_over over) over.text.now state → m.of ≡ of.Rule id
       → rule_found (rule_at (machine_over over) id.0).kind (run_of over levels) id.0 (matched_of m hit) state
       ≡ turn (run_of over levels) state
   turn-rule m hit id is rule =
@@ -115,7 +107,7 @@ module _ (over : Over) (levels : ℕ) (state : State) where
       ∙ turn-found over levels state (At (matched_of m hit)) is
 
   pub end-in-table : (m : Match) (hit : Captures)
-      → At (matched_of m hit) ≡ ordinary (machine_over over) over.text.now state
+      → At (matched_of m hit) ≡ search (machine_over over) over.text.now state
       → m.of ≡ of.End → state.place ≤ length over.text.now
       → state.stack.top.rule < length over.table.now.rules
   end-in-table m hit is end inside =

@@ -1,10 +1,11 @@
--- The machine that a run of code goes by: the rules of a table, without injections.
-use Rattle.std.specs.Prelude.{◌≡◌, ℕ, ◌+◌, ◌-◌, ◌*◌, ◌<◌, ◌≤◌, ◌^◌, List, [], length}
+-- The machine that a run of code goes by: the rules and injections of a table.
+use Rattle.std.specs.Prelude.{◌≡◌, ℕ, ◌+◌, ◌-◌, ◌*◌, ◌<◌, ◌≤◌, ◌^◌, List, length}
 use Rattle.text_pos.specs.declared.limits.Limits.{Limits}
 use Rattle.onig_match.specs.Works.{Worked}
 use Rattle.scope_defs.specs.Frames.{Stack, depth}
 use Rattle.line_laws.specs.RunEnds.{IsRooted}
 use Rattle.canonical_patterns.specs.ReadTrees.{read_tree}
+use Rattle.injection_defs.specs.Injections.{injections_of}
 use Rattle.rule_table.specs.Views.{Table}
 use Rattle.line_defs.specs.declared.limits.TheConstants.{MOST_OPEN, MOST_LEVELS}
 use Rattle.line_defs.specs.Machine.{Machine}
@@ -13,8 +14,13 @@ use Rattle.line_defs.specs.Line.{inside_by}
 use Rattle.line_turns.specs.declared.over.Over.{Over}
 
 abbrev pub machine_of : Table → Limits → Machine
-machine_of table limits =
-    record { rules = table.rules; injections = []; reader = read_tree; budget = limits.budget; long = limits.long }
+machine_of table limits = record {
+  rules = table.rules;
+  injections = injections_of table.rules table.injections;
+  reader = read_tree;
+  budget = limits.budget;
+  long = limits.long;
+}
 
 abbrev pub machine_over : Over → Machine
 machine_over over = machine_of over.table.now over.limits

@@ -579,7 +579,7 @@ fn turn(
         ≡ turn (run_of over.now levels) state.old) }
 {
     let flags = state.flags();
-    match searcher.ordinary(work, state.stack.top(), over.text, state.place, flags)? {
+    match searcher.search(work, state.stack.top(), over.text, state.place, flags)? {
         Find::Nothing => rest_of(over, state),
         Find::Spent => {
             state.out.set_spent();

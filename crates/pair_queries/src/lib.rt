@@ -12,7 +12,7 @@ pub use answer_defs::{
 };
 use pairing_defs::Row;
 pub use places::{around, jump, level_at, match_at};
-pub use ranges::{guides, pairs};
+pub use ranges::{guides, indentation_of, pairs};
 use std::alloc::{AllocError, Global};
 
 /// The brackets of the lines `from` to `to`, in order of the text.

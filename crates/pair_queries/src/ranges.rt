@@ -116,7 +116,7 @@ fn guide_row(row: &Row, text: &Text, tab: u32, line: u32) -> GuideRow
 }
 
 /// The indentation of a line, and 0 where there is no such line.
-fn indentation_of(text: &Text, tab: u32, line: u32) -> u32
+pub fn indentation_of(text: &Text, tab: u32, line: u32) -> u32
     requires some { 1 ≤ tab }
     requires few { tab ≤ MOST_TAB }
     ensures { result ≡ indentation_of tab (lines_of text.now) line }

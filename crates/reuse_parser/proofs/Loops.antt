@@ -13,7 +13,9 @@ use Rattle.tree_defs.specs.Items.{items_then, end}
 use Rattle.tree_defs.proofs.Lengths.{items_append, leaf_items, total_append, total_leaves, ends_append, ends_runs}
 use Rattle.tree_defs.proofs.Lengths.{plus_none}
 use Rattle.reuse_parser.specs.declared.place.Around.{Around}
-use Rattle.reuse_parser.specs.Parsing.{Leads, Follow, Grows, Listed, Stopped, front_has}
+use Rattle.reuse_parser.specs.Parsing.{Leads, Follow, Grows, Listed, Stopped, front_has, Still}
+use Rattle.reuse_parser.specs.Parsing.{Ends}
+use Rattle.tree_defs.specs.Ends.{EndAt}
 use Rattle.reuse_parser.specs.Parsing as parsing
 
 -- the depth of the deepest
@@ -32,6 +34,8 @@ pub record Parsed (a : Around) (at : Length) (ms : List Mark) (ts : List Tree) (
   pub shallow : deepest ts + a.level ≤ a.limit
   pub follow : Follow to a.end rest
   pub leads : Leads a (all_items ts) at done to rest
+  pub still : Still a ms rest
+  pub ends : Ends a (all_items ts) at ms to rest
 
 -- ---- at first
 pub parsed_first : (a : Around) (at : Length) (ms : List Mark) → a.level ≤ a.limit → Follow at a.end ms
@@ -45,6 +49,8 @@ parsed_first a at ms room follow = record {
   shallow = omega (arith, room);
   follow = follow;
   leads = λ its more has stop h fine. fine;
+  still = λ test holds. holds;
+  ends = λ test its holds none ends. ends;
 }
 
 -- ---- one node more
@@ -84,6 +90,11 @@ parsed_more a at ms ts to rest t behind left p g fits = record {
   long = total_more at to ts t behind p.long g.long;
   shallow = deepest_more ts t a.level a.limit p.shallow g.shallow;
   follow = g.follow;
+  still = λ test holds. g.still test (p.still test holds);
+  ends = λ test its holds none ends.
+      subst (λ x. EndAt test x at) (sym (items_append ts (t ∷ []) its))
+      (p.ends test (items_then t its) holds (λ s. absurd (g.more s))
+      (g.ends test its (p.still test holds) none ends));
   leads = λ its more has stop h fine.
       let inner = g.leads its more has stop h fine in
       let whole = p.leads (items_then t its) (g.done ++ more) has stop (λ s. absurd (g.more s)) inner in
@@ -125,6 +136,8 @@ parsed_whole a at ms ts to rest t p stopped same = record {
   shallow = subst (λ d. d + a.level ≤ a.limit) (sym (depth_leaves t ∙ ap deepest leaves)) p.shallow;
   follow = p.follow;
   stopped = stopped;
+  still = p.still;
+  ends = λ test holds. subst (λ x. EndAt test x at) items (p.ends test end holds (λ s. refl) tt);
   fine = subst (λ x. parsing.Fine a (front_has rest) to x at p.done) items
       (subst (λ x. parsing.Fine a (front_has rest) to (all_items ts end) at x) (append-nil p.done)
       (p.leads end [] (front_has rest) to (λ s. record { no_item = refl; no_mark = refl; front = λ k. refl })

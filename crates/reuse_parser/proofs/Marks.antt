@@ -7,11 +7,15 @@ use Rattle.text_pos.specs.declared.length.Length.{Length}
 use Rattle.text_pos.specs.Lengths.{plus, IsLess}
 use Rattle.pairing_defs.specs.declared.Mark.{Mark}
 use Rattle.tree_defs.specs.Items.{IsAt}
+use Rattle.tree_defs.specs.Ends.{IsInLine}
 use Rattle.tree_defs.proofs.Lengths.{same_length}
 use Rattle.reuse_parser.specs.Parsing.{start_of, end_of, size_of, next_start, work}
 
 pub size_ends : (m : Mark) → m.at.col < m.to → plus (start_of m) (size_of m) ≡ end_of m
 size_ends m some = same_length _ _ refl (omega (arith, some))
+
+pub in_line : (m : Mark) → m.at.col < m.to → IsInLine (size_of m)
+in_line m some = (refl, omega (arith, some))
 
 pub is_at : (m : Mark) → m.at.col < m.to → IsAt m (start_of m) (size_of m)
 is_at m some = record { line = refl; col = refl; to = omega (arith, some) }

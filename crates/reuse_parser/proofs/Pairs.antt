@@ -18,9 +18,10 @@ use Rattle.tree_defs.specs.Items as items
 use Rattle.tree_defs.proofs.Lengths.{plus_assoc}
 use Rattle.reuse_parser.specs.declared.place.Around.{Around}
 use Rattle.reuse_parser.specs.Parsing.{start_of, end_of, size_of, IsWithin, IsFront, Follow, Stopped, NoneBy, Fine}
-use Rattle.reuse_parser.specs.Parsing.{Nothing}
+use Rattle.reuse_parser.specs.Parsing.{Nothing, HoldsAt}
+use Rattle.tree_defs.specs.Ends.{EndAt}
 use Rattle.reuse_parser.specs.Parsing.{Grows, Listed, role_has, front_has}
-use Rattle.reuse_parser.proofs.Marks.{size_ends, is_at, less_behind}
+use Rattle.reuse_parser.proofs.Marks.{size_ends, in_line, is_at, less_behind}
 use Rattle.reuse_parser.proofs.Single.{not_stopped}
 
 -- ---- what is around the inside
@@ -107,6 +108,21 @@ closed_grows a b m kind rest t to c more room role follow w l closed = record {
   follow = subst (λ p. Follow (end_of c) p more) w.last l.follow.3;
   less = less_behind a.end (start_of m) (end_of c) (m ∷ rest) more
       (let h = ap length l.are ∙ length-append l.done (c ∷ more) in omega (arith, h));
+  still = λ test holds. subst (λ p. HoldsAt test p more) w.last (inner_holds test holds).2;
+  ends = λ test its holds none rest_ends.
+      let inside = items_then t items.end in
+      let begins = size_ends m follow.1 in
+      let at : behind inside (plus (start_of m) (size_of m)) ≡ start_of c =
+      ap (λ p. behind inside p) begins ∙ l.fine.ends ∙ l.stopped.0 in
+      let last : plus (behind inside (plus (start_of m) (size_of m))) (size_of c) ≡ end_of c =
+      ap (λ p. plus p (size_of c)) at ∙ size_ends c l.follow.1 in (
+        in_line m follow.1,
+        subst (λ p. test p ≡ true) (sym begins) holds.1,
+        subst (λ p. EndAt test inside p) (sym begins) (l.ends test (outer_holds test holds)),
+        in_line c l.follow.1,
+        subst (λ p. test p ≡ true) (sym last) (inner_holds test holds).1,
+        subst (λ p. EndAt test its p) (sym last) rest_ends,
+      );
   leads = λ its ms has stop h fine0.
       let inside = items_then t items.end in
       let begins = size_ends m follow.1 in
@@ -144,6 +160,12 @@ closed_grows a b m kind rest t to c more room role follow w l closed = record {
       };
 }
   where
+    outer_holds : (test : Length → Bool) → HoldsAt test a.end (m ∷ rest) → HoldsAt test b.end rest
+    outer_holds test holds = subst (λ p. HoldsAt test p rest) (sym w.last) holds.2
+
+    inner_holds : (test : Length → Bool) → HoldsAt test a.end (m ∷ rest) → HoldsAt test b.end (c ∷ more)
+    inner_holds test holds = l.still test (outer_holds test holds)
+
     both_false : (x y : Bool) → x ≡ false → y ≡ false → (x || y) ≡ false
     both_false false y h k = k
     both_false true y h k = cc
@@ -185,7 +207,7 @@ pub left_grows : (a b : Around) (m : Mark) (kind : ℕ) (rest : List Mark) (t : 
     → a.level < a.limit → m.role ≡ Opener kind → Follow (start_of m) a.end (m ∷ rest) → IsWithin a kind b
     → Listed b (end_of m) rest t to left → front_has left kind ≡ false
     → Grows a (start_of m) (m ∷ rest) (Pair (size_of m) kind t None) to left
-left_grows a b m kind rest t to left room role follow w l none = record {
+left_grows a b m kind rest t to left room role follow w l no_closer = record {
   more = opens a m kind rest role;
   done = m ∷ l.done;
   are = ap (λ ms. m ∷ ms) l.are;
@@ -195,8 +217,20 @@ left_grows a b m kind rest t to left room role follow w l none = record {
   shallow = omega (arith, l.shallow, w.level, w.limit);
   follow = subst (λ p. Follow to p left) w.last l.follow;
   less = less_behind a.end (start_of m) to (m ∷ rest) left (fewer m rest l.done left l.are);
+  still = λ test holds. subst (λ p. HoldsAt test p left) w.last
+      (l.still test (subst (λ p. HoldsAt test p rest) (sym w.last) holds.2));
+  ends = λ test its holds none rest_ends.
+      let inside = items_then t items.end in
+      let begins = size_ends m follow.1 in
+      let no_more : its ≡ items.end = none (left_stopped a b kind to left w no_closer l.stopped) in
+      subst (λ x. EndAt test (items.unclosed_then (size_of m) kind inside x) (start_of m)) (sym no_more) (
+        in_line m follow.1,
+        subst (λ p. test p ≡ true) (sym begins) holds.1,
+        subst (λ p. EndAt test inside p) (sym begins)
+            (l.ends test (subst (λ p. HoldsAt test p rest) (sym w.last) holds.2)),
+      );
   leads = λ its ms has stop h fine.
-      let nothing : Nothing its ms has left = h (left_stopped a b kind to left w none l.stopped) in
+      let nothing : Nothing its ms has left = h (left_stopped a b kind to left w no_closer l.stopped) in
       let inside = items_then t items.end in
       let within : Fine b (front_has left) to inside (plus (start_of m) (size_of m)) l.done =
       subst (λ p. Fine b (front_has left) to inside p l.done) (sym (size_ends m follow.1)) l.fine in
@@ -216,7 +250,7 @@ left_grows a b m kind rest t to left room role follow w l none = record {
         apart = λ k t. within.apart k (above_kept a b kind k w t);
         passes = λ n. none_more has (left_by (n + 1) inside) (record { row = n; kind = kind })
             (none_also (front_has left) has (left_by (n + 1) inside) nothing.front (within.passes (n + 1)))
-            (nothing.front kind ∙ none);
+            (nothing.front kind ∙ no_closer);
       } in
       subst (λ x. Fine a has stop (items.unclosed_then (size_of m) kind inside x) (start_of m) ((m ∷ l.done) ++ ms))
       (sym nothing.no_item)

@@ -1,5 +1,5 @@
 -- A text, an opener that is met at the limit and an unexpected closer grow the list that they are put in.
-use Rattle.std.proofs.Common.{◌≡◌, ℕ, ◌+◌, ◌≤◌, ◌&&◌, ◌||◌, List, [], ◌∷◌, length, true, false, IsTrue, refl, sym}
+use Rattle.std.proofs.Common.{◌≡◌, ℕ, ◌+◌, ◌≤◌, ◌&&◌, ◌||◌, List, [], ◌∷◌, length, Bool, true, false, IsTrue, refl, sym}
 use Rattle.std.proofs.Common.{subst, arith}
 use Rattle.text_pos.specs.declared.length.Length.{Length}
 use Rattle.text_pos.specs.declared.kinds.Kinds.{Kinds}
@@ -12,7 +12,9 @@ use Rattle.tree_defs.specs.Tree.{Text, Lone}
 use Rattle.tree_defs.specs.Items.{IsOpener, IsWithin, missed_in}
 use Rattle.reuse_parser.specs.declared.place.Around.{Around}
 use Rattle.reuse_parser.specs.Parsing.{start_of, end_of, size_of, next_start, Follow, Stopped, Fine, Grows, role_has}
-use Rattle.reuse_parser.proofs.Marks.{size_ends, is_at, not_less_itself, less_behind, less_at_next, not_both}
+use Rattle.reuse_parser.specs.Parsing.{HoldsAt}
+use Rattle.tree_defs.specs.Ends.{EndAt}
+use Rattle.reuse_parser.proofs.Marks.{size_ends, in_line, is_at, not_less_itself, less_behind, less_at_next, not_both}
 
 -- ---- text
 follow_next : (at last : Length) (ms : List Mark) → Follow at last ms → Follow (next_start last ms) last ms
@@ -22,6 +24,11 @@ follow_next at last (m ∷ ms) follow = (not_less_itself (start_of m), follow.1,
 stopped_at : (a : Around) (at : Length) (ms : List Mark) → Stopped a at ms → at ≡ next_start a.end ms
 stopped_at a at [] stopped = stopped
 stopped_at a at (m ∷ ms) stopped = stopped.0
+
+pub holds_next : (test : Length → Bool) (last : Length) (ms : List Mark) → HoldsAt test last ms
+    → test (next_start last ms) ≡ true
+holds_next test last [] holds = holds
+holds_next test last (m ∷ ms) holds = holds.0
 
 pub text_grows : (a : Around) (at len : Length) (ms : List Mark) → a.level ≤ a.limit → IsLess at (next_start a.end ms)
     → Follow at a.end ms → plus at len ≡ next_start a.end ms → Grows a at ms (Text len false) (next_start a.end ms) ms
@@ -34,6 +41,11 @@ text_grows a at len ms room less follow long = record {
   shallow = omega (arith, room);
   follow = follow_next at a.end ms follow;
   less = less_at_next (length ms) at (next_start a.end ms) less;
+  still = λ test holds. holds;
+  ends = λ test its holds none ends. (
+    subst (λ p. test p ≡ true) (sym long) (holds_next test a.end ms holds),
+    subst (λ p. EndAt test its p) (sym long) ends,
+  );
   leads = λ its more has stop h fine0.
       let fine : Fine a has stop its (plus at len) more = subst (λ p. Fine a has stop its p more) (sym long) fine0 in
       record {
@@ -68,6 +80,11 @@ cut_grows a m rest room full opener follow = record {
   shallow = omega (arith, room);
   follow = follow.3;
   less = less_behind a.end (start_of m) (end_of m) (m ∷ rest) rest (omega arith);
+  still = λ test holds. holds.2;
+  ends = λ test its holds none ends. (
+    subst (λ p. test p ≡ true) (sym (size_ends m follow.1)) holds.1,
+    subst (λ p. EndAt test its p) (sym (size_ends m follow.1)) ends,
+  );
   leads = λ its more has stop h fine0.
       let ends = size_ends m follow.1 in
       let fine : Fine a has stop its (plus (start_of m) (size_of m)) more =
@@ -110,6 +127,12 @@ lone_grows a m kinds rest room role apart follow = record {
   shallow = omega (arith, room);
   follow = follow.3;
   less = less_behind a.end (start_of m) (end_of m) (m ∷ rest) rest (omega arith);
+  still = λ test holds. holds.2;
+  ends = λ test its holds none ends. (
+    in_line m follow.1,
+    subst (λ p. test p ≡ true) (sym (size_ends m follow.1)) holds.1,
+    subst (λ p. EndAt test its p) (sym (size_ends m follow.1)) ends,
+  );
   leads = λ its more has stop h fine0.
       let fine : Fine a has stop its (plus (start_of m) (size_of m)) more =
       subst (λ p. Fine a has stop its p more) (sym (size_ends m follow.1)) fine0 in

@@ -1,5 +1,5 @@
 -- The marks of a source, and where they lie in its lines.
-use Rattle.std.proofs.Common.{◌≡◌, ℕ, ◌+◌, ◌<◌, ◌≤◌, ◌&&◌, inl, inr, List, [], ◌∷◌, ◌++◌, length, map, Bool, true}
+use Rattle.std.proofs.Common.{◌≡◌, ℕ, zero, suc, nat_le, append_assoc, ◌+◌, ◌<◌, ◌≤◌, ◌&&◌, inl, inr, List, [], ◌∷◌, ◌++◌, length, map, Bool, true}
 use Rattle.std.proofs.Common.{false, IsTrue, Option, Some, None}
 use Rattle.bracket_ast.specs.Shapes.{or_nothing, SoundInside}
 use Rattle.std.proofs.Common.{refl, sym, ap, ◌∙◌, subst, arith, append-nil}
@@ -24,11 +24,24 @@ use Rattle.tree_defs.specs.Rows.{start, place, tree_rows, AreFull}
 use Rattle.tree_defs.proofs.FullRows.{row_law}
 use Rattle.pairing_defs.specs.Pairing.{paired}
 use Rattle.tree_defs.proofs.Lengths.{same_length, none_plus}
-use Rattle.reuse_parser.specs.Parsing.{Follow, Listed, last_place, role_has}
+use Rattle.reuse_parser.specs.Parsing.{Follow, Listed, last_place, role_has, AllFit, HoldsAt}
+use Rattle.std.specs.List.{slice_get}
+use Rattle.std.proofs.lemmas.List.{length-append}
+use Rattle.tree_defs.specs.Ends.{fits, in_lines}
 use Rattle.reuse_parser.specs.Whole.{StandsFor}
 
 abbrev first_place : Pos
 first_place = record { line = 0; col = 0 }
+
+le_true : (a b : ℕ) → a ≤ b → nat_le a b ≡ true
+le_true a b h = grind (arith, nat_tests)
+
+get_there : (before : List ℕ) (x : ℕ) (after : List ℕ) (n : ℕ) → length before ≡ n
+    → slice_get (before ++ x ∷ after) n ≡ Some x
+get_there [] x after zero is = refl
+get_there [] x after (suc n) is = absurd (omega (arith, is))
+get_there (b ∷ before) x after zero is = absurd (omega (arith, is))
+get_there (b ∷ before) x after (suc n) is = get_there before x after n (omega (arith, is))
 
 -- ---- one mark after the other
 pub next_marks : (s : Source) (m : Mark) → AreMarked s.lines → Some m ≡ first (ahead s)
@@ -124,21 +137,78 @@ nothing_open true true h t = cc
 nothing_open true false h t = cc
 nothing_open false c h t = cc
 
+-- ---- where marks start and end
+pub all_hold : (last : Length) (ms : List Mark) → AllFit ms → fits last ≡ true → HoldsAt fits last ms
+all_hold last [] fit ends = ends
+all_hold last (m ∷ ms) fit ends = (fit.0, fit.1, all_hold last ms fit.2 ends)
+
+-- marks of a line lie in it
+line_holds : (lens : List ℕ) (n from len : ℕ) (ms : List LineMark) (last : Length) (rest : List Mark)
+    → slice_get lens n ≡ Some len → RiseIn from len ms → HoldsAt (in_lines lens) last rest
+    → HoldsAt (in_lines lens) last (map (on_line n) ms ++ rest)
+line_holds lens n from len [] last rest there rise more = more
+line_holds lens n from len (m ∷ ms) last rest there rise more =
+    let to : m.to ≤ len = rises m.to len ms rise.3 in (
+      in_line m.from (let some = rise.1 in omega (arith, some, to)),
+      in_line m.to to,
+      line_holds lens n m.to len ms last rest there rise.3 more,
+    )
+  where
+    rises : (from len : ℕ) (ms : List LineMark) → RiseIn from len ms → from ≤ len
+    rises from len [] rise = rise
+    rises from len (m ∷ ms) rise =
+        let h = rises m.to len ms rise.3 in let a = rise.0 in let b = rise.1 in omega (arith, h, a, b)
+
+    in_line : (col : ℕ) → col ≤ len → in_lines lens (record { lines = n; cols = col }) ≡ true
+    in_line col up_to = rw there (le_true col len up_to)
+
+lines_hold : (lens : List ℕ) (n : ℕ) (lines : List MarkedLine) (last : Length) (before : List ℕ) → AreMarked lines
+    → lens ≡ before ++ map (λ l. l.length) lines → length before ≡ n → in_lines lens last ≡ true
+    → HoldsAt (in_lines lens) last (marks_of_lines n (map (λ l. l.marks) lines))
+lines_hold lens n [] last before are is at ends = ends
+lines_hold lens n (line ∷ lines) last before are is at ends =
+    line_holds lens n 0 line.length line.marks last (marks_of_lines (n + 1) (map (λ l. l.marks) lines))
+    (ap (λ l. slice_get l n) is ∙ get_there before line.length (map (λ l. l.length) lines) n at) are.0
+    (lines_hold lens (n + 1) lines last (before ++ line.length ∷ []) are.1
+    (is ∙ sym (append_assoc before (line.length ∷ []) (map (λ l. l.length) lines)))
+    (let l = length-append before (line.length ∷ []) in omega (arith, at, l)) ends)
+
+last_line : (before : List ℕ) (line : MarkedLine) (lines : List MarkedLine) (n : ℕ) → n ≡ length before + length lines
+    → slice_get (before ++ map (λ l. l.length) (line ∷ lines)) n ≡ Some (last_length (line ∷ lines))
+last_line before line [] n is = get_there before line.length [] n (omega (arith, is))
+last_line before line (next ∷ lines) n is =
+    ap (λ l. slice_get l n) (sym (append_assoc before (line.length ∷ []) (map (λ l. l.length) (next ∷ lines))))
+    ∙ last_line (before ++ line.length ∷ []) next lines n
+    (let l = length-append before (line.length ∷ []) in omega (arith, is, l))
+
+end_holds : (lines : List MarkedLine) (last : Length) → 0 < length lines → place last ≡ text_end lines
+    → in_lines (map (λ l. l.length) lines) last ≡ true
+end_holds [] last some is = absurd (omega (arith, some))
+end_holds (line ∷ lines) last some is =
+    let at : last.lines ≡ length lines = let h = ap (λ p. p.line) is in omega (arith, h) in
+    let col : last.cols ≡ last_length (line ∷ lines) = ap (λ p. p.col) is in
+    rw (last_line [] line lines last.lines (omega (arith, at)), col)
+    (le_true (last_length (line ∷ lines)) (last_length (line ∷ lines)) (omega arith))
+
 pub stands_for : (above : Kinds) (limit : ℕ) (last : Length) (t : Tree) (to : Length) (rest : List Mark)
     (lines : List MarkedLine) → ((k : ℕ) → has_kind above k ≡ false) → place last ≡ text_end lines
+    → AreMarked lines → 0 < length lines → AllFit (marks_in lines) → fits last ≡ true
     → Listed (record { above = above; level = 0; limit = limit; end = last }) start (marks_in lines) t to rest
     → IsEven t
     → StandsFor limit t lines
-stands_for above limit last t to (m ∷ rest) lines none is l even =
+stands_for above limit last t to (m ∷ rest) lines none is marked some fit last_fits l even =
     absurd (nothing_open (role_has m.role l.stopped.1.0) (has_kind above l.stopped.1.0)
     (none l.stopped.1.0) l.stopped.1.1)
-stands_for above limit last t to [] lines none is l even =
+stands_for above limit last t to [] lines none is marked some fit last_fits l even =
     let stands = subst (λ ms. Stands limit 0 (items_of t) start ms) (sym (l.are ∙ append-nil l.done)) l.fine.stands in
     let ends = ap place (l.fine.ends ∙ l.stopped) ∙ is in record {
       stands = stands;
       long = ap place (sym (none_plus (length_of t)) ∙ l.long ∙ l.stopped) ∙ is;
       ends = ends;
       even = even;
+      inside = l.ends (in_lines (map (λ x. x.length) lines))
+          (lines_hold (map (λ x. x.length) lines) 0 lines last [] marked refl refl (end_holds lines last some is));
+      fit = l.ends fits (all_hold last (marks_in lines) fit last_fits);
       rows = subst (λ e. AreFull (paired limit e (marks_in lines)) (tree_rows (items_of t) start 0 [])) ends
           (row_law limit t (marks_in lines) stands);
     }

@@ -1,6 +1,6 @@
 -- What a parse of marks keeps: marks in order from a place on, where a list of nodes ends, and what a node and what
 -- stands behind it are together.
-use Rattle.std.specs.Prelude.{◌≡◌, ℕ, ◌+◌, ◌-◌, ◌*◌, ◌<◌, ◌≤◌, ◌==◌, ◌&&◌, ◌||◌, nat_lt, if◌then◌else◌, List, [], ◌∷◌}
+use Rattle.std.specs.Prelude.{◌≡◌, ℕ, zero, suc, ◌+◌, ◌-◌, ◌*◌, ◌<◌, ◌≤◌, ◌==◌, ◌&&◌, ◌||◌, nat_lt, if◌then◌else◌, List, [], ◌∷◌}
 use Rattle.std.specs.Prelude.{◌++◌, length, Bool, true, false, IsTrue}
 use Rattle.text_pos.specs.declared.length.Length.{Length}
 use Rattle.text_pos.specs.KindSet.{has_kind}
@@ -13,6 +13,7 @@ use Rattle.tree_defs.specs.Tree as tree
 use Rattle.tree_defs.specs.Shape.{length_of, leaves_of}
 use Rattle.tree_defs.specs.Items.{Items, items_then, behind, missed_in, left_by, Stands}
 use Rattle.tree_defs.specs.Items as items
+use Rattle.tree_defs.specs.Ends.{EndAt, fits}
 use Rattle.text_pos.specs.declared.length.Pos.{Pos}
 use Rattle.mark_source.specs.Source as source
 use Rattle.mark_source.specs.Source.{IsRole}
@@ -39,6 +40,21 @@ next_start last (m ∷ ms) = start_of m
 abbrev pub Follow : Length → Length → List Mark → Type 0
 Follow at last [] = ¬ IsLess last at
 Follow at last (m ∷ ms) = (¬ IsLess (start_of m) at) × (m.at.col < m.to) × IsRole m.role × Follow (end_of m) last ms
+
+-- a test holds of the places where marks start and end, and of the text's end
+abbrev pub HoldsAt : (Length → Bool) → Length → List Mark → Type 0
+HoldsAt test last [] = test last ≡ true
+HoldsAt test last (m ∷ ms) = (test (start_of m) ≡ true) × (test (end_of m) ≡ true) × HoldsAt test last ms
+
+-- the places where marks start and end are of 32 bits
+abbrev pub AllFit : List Mark → Type 0
+AllFit [] = Unit {0}
+AllFit (m ∷ ms) = (fits (start_of m) ≡ true) × (fits (end_of m) ≡ true) × AllFit ms
+
+-- a source's count after so many marks more
+abbrev pub given_after : ℕ → ℕ → ℕ
+given_after zero count = count
+given_after (suc n) count = source.risen (given_after n count)
 
 -- where the last of some marks ends, or else the place before them
 abbrev pub last_place : Pos → List Mark → Pos
@@ -104,6 +120,15 @@ Leads a before at done to rest = (its : Items) (ms : List Mark) (has : ℕ → B
     → (Stopped a to rest → Nothing its ms has rest) → Fine a has stop its to ms
     → Fine a has stop (before its) at (done ++ ms)
 
+-- where a test holds of the places of all marks, it does so of those that are left
+abbrev pub Still : Around → List Mark → List Mark → Type 0
+Still a ms rest = (test : Length → Bool) → HoldsAt test a.end ms → HoldsAt test a.end rest
+
+-- and of where nodes end that are put before others
+abbrev pub Ends : Around → (Items → Items) → Length → List Mark → Length → List Mark → Type 0
+Ends a before at ms to rest = (test : Length → Bool) (its : Items) → HoldsAt test a.end ms
+    → (Stopped a to rest → its ≡ items.end) → EndAt test its to → EndAt test (before its) at
+
 -- twice the marks that are left, and one for a text before them
 abbrev pub work : Length → Length → List Mark → ℕ
 work last at ms =
@@ -122,6 +147,8 @@ pub record Grows (a : Around) (at : Length) (ms : List Mark) (node : tree.Tree) 
   pub follow : Follow to a.end rest
   pub less : work a.end to rest < work a.end at ms
   pub leads : Leads a (items_then node) at done to rest
+  pub still : Still a ms rest
+  pub ends : Ends a (items_then node) at ms to rest
 
 pub record Listed (a : Around) (at : Length) (ms : List Mark) (t : tree.Tree) (to : Length) (rest : List Mark) : Type
     0 where
@@ -132,3 +159,5 @@ pub record Listed (a : Around) (at : Length) (ms : List Mark) (t : tree.Tree) (t
   pub follow : Follow to a.end rest
   pub stopped : Stopped a to rest
   pub fine : Fine a (front_has rest) to (items_then t items.end) at done
+  pub still : Still a ms rest
+  pub ends : (test : Length → Bool) → HoldsAt test a.end ms → EndAt test (items_then t items.end) at

@@ -2,6 +2,7 @@ ghost use Rattle.std.specs.Prelude.{◌≡◌, ◌+◌, ◌≤◌, ◌<◌, leng
 ghost use Rattle.bracket_marks.specs.MarkedLine.{marks_in, text_end};
 ghost use Rattle.bracket_ast.specs.Shapes.{or_nothing, SoundInside};
 ghost use Rattle.reuse_parser.specs.Whole.{StandsFor};
+ghost use Rattle.reuse_parser.specs.Parsing.{given_after};
 
 use crate::gather::gather;
 use crate::list::parse_list;
@@ -14,7 +15,7 @@ use step_count::Steps;
 use text_pos::{Kinds, Length, length_to};
 
 /// The tree of all marks of a source that stands at the text's start, with at most `limit` pairs one in the other. One
-/// step is taken for each mark. The source's place is then the text's end.
+/// step is taken for each mark, and the source's count rises by one for each. The source's place is then the text's end.
 pub fn parse<S: MarkSource, M: Ledger>(
     alloc: Global,
     source: &mut S,
@@ -29,6 +30,8 @@ pub fn parse<S: MarkSource, M: Ledger>(
     ensures lines { (S.told source.new).lines ≡ (S.told source.old).lines }
     ensures counted { IfOk result (λ t. marks.new ≡ marks.old + length (marks_in (S.told source.old).lines)) }
     ensures few { marks.new ≤ marks.old + length (marks_in (S.told source.old).lines) }
+    ensures given { IfOk result (λ t. (S.told source.new).given ≡ given_after (length (marks_in (S.told source.old).lines)) (S.told source.old).given) }
+    ensures few_given { (S.told source.new).given ≤ (S.told source.old).given + length (marks_in (S.told source.old).lines) }
 {
     let all = gather(alloc, source, marks)?;
     let end = source.end();

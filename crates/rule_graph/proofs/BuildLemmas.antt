@@ -1,5 +1,5 @@
 -- From the listed rules of a grammar to its graph.
-use Rattle.std.proofs.Common.{◌≡◌, ℕ, List, ap, sym, ◌∙◌, subst, length, map}
+use Rattle.std.proofs.Common.{◌≡◌, ℕ, ◌+◌, ◌≤◌, List, ap, sym, ◌∙◌, subst, length, map, All, arith}
 use Rattle.std.specs.Prelude.{Some, None}
 use Rattle.std.proofs.lemmas.List.{length-map}
 use Rattle.scope_defs.specs.declared.types.RuleId.{RuleId}
@@ -9,14 +9,18 @@ use Rattle.grammar_defs.specs.GrammarShape.{rule_count}
 use Rattle.graph_defs.specs.ListedRules.{listed_rules}
 use Rattle.graph_defs.specs.ActiveLists.{active_rules, with_active as with_list}
 use Rattle.graph_defs.specs.GraphMeaning.{FileGraph, graph, too_wide, graph_of, reading, reading_by}
-use Rattle.graph_defs.specs.GraphMeaning.{over_limit, most_groups, unread}
+use Rattle.graph_defs.specs.GraphMeaning.{over_limit, most_groups, unread_texts}
+use Rattle.graph_defs.specs.ListedInjections.{injections, unread_keys}
+use Rattle.injection_defs.specs.Injections.{Listed}
 use Rattle.rule_table.specs.Views.{rule_of}
-use Rattle.rule_table.specs.Fits.{AreRules}
+use Rattle.rule_table.specs.Fits.{AreRules, IsInjection}
 use Rattle.rule_table.specs.declared.rule.Rule.{Rule as TableRule}
 use Rattle.rule_graph.specs.Listing.{numbers}
 use Rattle.rule_graph.specs.Opening.{AreWithin, with_lists}
 use Rattle.rule_graph.proofs.FitLemmas.{grammar_fits, grammar_within}
 use Rattle.rule_graph.proofs.RangeLemmas.{listed_count}
+use Rattle.rule_graph.proofs.WalkLemmas.{small_whole}
+use Rattle.rule_graph.proofs.InjectionLemmas.{injections_fit, few_unread_keys}
 use Rattle.rule_graph.proofs.ListingLemmas.{all_active, list_of}
 
 pub count_of : (g : Grammar) (rules : List TableRule) → map rule_of rules ≡ listed_rules g → length rules ≡ rule_count g
@@ -56,22 +60,42 @@ fits_of g rules groups are most =
     (subst (λ m. AreRules (rule_count g) m (map rule_of rules)) (sym (most ∙ ap most_groups are))
     (subst (AreRules (rule_count g) (most_groups (active_rules (listed_rules g)))) (sym are) (grammar_fits g)))
 
-abbrev made : List Rule → ℕ → ℕ → FileGraph
-made rules groups unread = record { rules = rules; groups = groups; unread = unread }
+abbrev made : List Rule → List Listed → ℕ → ℕ → FileGraph
+made rules injected groups unread =
+    record { rules = rules; injections = injected; groups = groups; unread = unread }
 
-made_same : {a b : List Rule} {m n u v : ℕ} → a ≡ b → m ≡ n → u ≡ v → made a m u ≡ made b n v
-made_same {a} {b} {m} {n} {u} {v} e f h =
-    ap (λ rules. made rules m u) e ∙ ap (λ groups. made b groups u) f ∙ ap (made b n) h
+made_same : {a b : List Rule} {i j : List Listed} {m n u v : ℕ} → a ≡ b → i ≡ j → m ≡ n → u ≡ v
+    → made a i m u ≡ made b j n v
+made_same {a} {b} {i} {j} {m} {n} {u} {v} e s f h =
+    ap (λ rules. made rules i m u) e ∙ ap (λ all. made b all m u) s ∙ ap (λ groups. made b j groups u) f
+    ∙ ap (made b j n) h
 
-pub reading_of : (g : Grammar) (all rules : List Rule) (groups count : ℕ) → all ≡ listed_rules g
-    → over_limit (active_rules all) ≡ None → rules ≡ active_rules (listed_rules g)
-    → groups ≡ most_groups rules → count ≡ unread g
-    → reading g ≡ graph (record { rules = rules; groups = groups; unread = count })
-reading_of g all rules groups count are few got most counted =
+pub reading_of : (g : Grammar) (all rules : List Rule) (injected : List Listed) (groups count keys : ℕ)
+    → all ≡ listed_rules g
+    → over_limit (active_rules all) ≡ None → rules ≡ active_rules (listed_rules g) → injected ≡ injections g
+    → groups ≡ most_groups rules → count ≡ unread_texts g → keys ≡ unread_keys g.injections
+    → reading g ≡ graph (record { rules = rules; injections = injected; groups = groups; unread = count + keys })
+reading_of g all rules injected groups count keys are few got listed most counted unread =
     ap (λ over. reading_by over (graph_of g)) (sym (ap (λ rs. over_limit (active_rules rs)) are) ∙ few)
-    ∙ ap graph (sym (made_same got (most ∙ ap most_groups got) counted))
+    ∙ ap graph (sym (made_same got listed (most ∙ ap most_groups got)
+    (ap (λ n. n + keys) counted ∙ ap (λ n. unread_texts g + n) unread)))
 
 pub wide_of : (g : Grammar) (all : List Rule) (sum : ℕ) → all ≡ listed_rules g
     → over_limit (active_rules all) ≡ Some sum → reading g ≡ too_wide sum
 wide_of g all sum are wide =
     ap (λ over. reading_by over (graph_of g)) (sym (ap (λ rs. over_limit (active_rules rs)) are) ∙ wide)
+
+-- the injections of a grammar are of its rules
+pub injections_of : (g : Grammar) (rules : List TableRule) (injected : List Listed)
+    → map rule_of rules ≡ active_rules (listed_rules g) → injected ≡ injections g
+    → All (IsInjection (length rules)) injected
+injections_of g rules injected are listed =
+    subst (λ n. All (IsInjection n) injected) (sym (made_count g rules are))
+    (subst (All (IsInjection (rule_count g))) (sym listed) (injections_fit g))
+
+-- so few texts and keys that they can be counted together
+pub few_of : (g : Grammar) (count keys : ℕ) → rule_count g ≤ 65_536 → count ≡ unread_texts g
+    → keys ≡ unread_keys g.injections → count + keys ≤ 327_680
+few_of g count keys few counted unread =
+    let small = small_whole g few in
+    omega (arith, few, small.unread, counted, unread, few_unread_keys g.injections)

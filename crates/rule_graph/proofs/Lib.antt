@@ -7,5 +7,6 @@ pub mod ActiveLemmas
 pub mod ListingLemmas
 pub mod RangeLemmas
 pub mod FitLemmas
+pub mod InjectionLemmas
 pub mod BuildLemmas
 pub mod FileLemmas

@@ -29,7 +29,7 @@ use Rattle.grammar_json.specs.NamedViews.{named_view}
 use Rattle.grammar_json.specs.declared.named.NamedRule.{NamedRule as TableNamed}
 use Rattle.graph_defs.specs.Includes.{repository_from}
 use Rattle.graph_defs.specs.ListedRules.{listed_rules, injections_from}
-use Rattle.graph_defs.specs.GraphMeaning.{unread}
+use Rattle.graph_defs.specs.GraphMeaning.{unread_texts}
 use Rattle.rule_graph.specs.Walks.{Walked, after, after_named, after_group, with_listed, IsSmall}
 
 -- counts of lists one behind the other
@@ -458,7 +458,7 @@ start = made [] 0
 
 pub whole : (g : Grammar) (w1 w2 w3 w4 : Walked) → w1 ≡ after_group g start (Some g.scope) g.patterns
     → w2 ≡ after g w1 g.patterns → w3 ≡ after_named g w2 g.repository → w4 ≡ after_named g w3 g.injections
-    → w4 ≡ made (listed_rules g) (unread g)
+    → w4 ≡ made (listed_rules g) (unread_texts g)
 whole g w1 w2 w3 w4 e1 e2 e3 e4 =
     let x = group_of (Some g.scope) (members g 1 g.patterns) in
     let p = rules_from g 1 g.patterns in
@@ -480,7 +480,7 @@ whole g w1 w2 w3 w4 e1 e2 e3 e4 =
     let c2 = count_by-append is_unread (texts_of g.patterns) (named_texts g.repository ++ named_texts g.injections) in
     omega (arith, c1, c2))
 
-pub small_whole : (g : Grammar) → rule_count g ≤ 65_536 → IsSmall (made (listed_rules g) (unread g))
+pub small_whole : (g : Grammar) → rule_count g ≤ 65_536 → IsSmall (made (listed_rules g) (unread_texts g))
 small_whole g few =
     let p = rules_from g 1 g.patterns in
     let r = named_from g (repository_from g) g.repository in

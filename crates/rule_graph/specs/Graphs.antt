@@ -6,7 +6,7 @@ use Rattle.rule_graph.specs.declared.graph.GraphRefusal.{GraphRefusal}
 use Rattle.rule_graph.specs.declared.graph.GraphRefusal.TheVariants.{TooWide, Memory}
 
 abbrev pub table_in : FileGraph → Table
-table_in g = record { rules = g.rules; groups = g.groups }
+table_in g = record { rules = g.rules; injections = g.injections; groups = g.groups }
 
 -- the answer is what the grammar is read as; want of memory says nothing of it
 abbrev pub GivesGraph : Result FileGraph GraphRefusal → GraphReading → Type 0

@@ -1,4 +1,5 @@
 pub mod Graphs
+pub mod Keyed
 pub mod Keys
 pub mod Listing
 pub mod Opening

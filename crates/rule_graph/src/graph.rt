@@ -1,5 +1,5 @@
 ghost use Rattle.std.specs.Prelude.{◌≡◌, ◌≤◌, ◌<◌, map, length};
-ghost use Rattle.rule_table.specs.Views.{rule_of, slot_of};
+ghost use Rattle.rule_table.specs.Views.{rule_of, slot_of, listed_of};
 ghost use Rattle.grammar_defs.specs.GrammarShape.{rule_count};
 ghost use Rattle.grammar_json.specs.GrammarViews.{grammar_view};
 ghost use Rattle.graph_defs.specs.ActiveLists.{rule_at};
@@ -9,10 +9,11 @@ ghost use Rattle.rule_graph.specs.Graphs.{GivesGraph, table_in};
 ghost use Rattle.rule_graph.specs.declared.graph.GraphRefusal.TheVariants.{Memory};
 
 use crate::active::{active_lists, set_active};
+use crate::injections::injections_of;
 use crate::walk::listed;
 use grammar_defs::MOST_RULES;
 use grammar_json::Grammar;
-use rule_table::{Rule, RuleTable, Slot};
+use rule_table::{Injection, Rule, RuleTable, Slot};
 use scope_defs::RuleId;
 use std::alloc::{AllocError, AllocFailed, Global};
 use std::marker::Model;
@@ -68,7 +69,7 @@ fn most_groups(rules: &[Rule]) -> u32
     most
 }
 
-/// The rules of a grammar: their numbers, read patterns and active lists.
+/// The rules of a grammar: their numbers, read patterns and active lists; and its injections.
 #[derive(Drop)]
 pub struct Graph {
     table: RuleTable,
@@ -80,11 +81,17 @@ impl Model for Graph {
 
     ghost Value = { FileGraph };
 
-    ghost view = { λ g. record { rules = g.table.rules; groups = g.table.groups; unread = g.unread } };
+    ghost view = { λ g. record {
+      rules = g.table.rules;
+      injections = g.table.injections;
+      groups = g.table.groups;
+      unread = g.unread;
+    } };
 }
 
 impl Graph {
-    /// The graph of a grammar. Each pattern is read here, once; one that can't be read never matches, and is counted.
+    /// The graph of a grammar. Each pattern and each key of injections is read here, once; a pattern that can't be read
+    /// never matches, a key that can't be read injects nothing, and both are counted.
     pub fn build(alloc: Global, grammar: &Grammar) -> Result<Graph, GraphRefusal>
         requires { rule_count (grammar_view grammar.now) ≤ MOST_RULES }
         ensures { GivesGraph result (reading (grammar_view grammar.now)) }
@@ -93,9 +100,10 @@ impl Graph {
         let lists = active_lists(alloc, rules.as_slice())?;
         set_active(&mut rules, lists);
         let groups = most_groups(rules.as_slice());
+        let (injections, unread_keys) = injections_of(alloc, grammar)?;
         Ok(Graph {
-            table: RuleTable::of(rules, groups),
-            unread,
+            table: RuleTable::of(rules, injections, groups),
+            unread: unread + unread_keys,
         })
     }
 
@@ -121,7 +129,7 @@ impl Graph {
         self.table.groups()
     }
 
-    /// How many texts of patterns can't be read.
+    /// How many texts of patterns and keys of injections can't be read.
     pub fn unread(&self) -> u32
         ensures { result ≡ self.now.unread }
     {
@@ -142,6 +150,13 @@ impl Graph {
         ensures { numbers result.now ≡ (rule_at self.now.rules id.0).active }
     {
         self.table.rule(id).active.as_slice()
+    }
+
+    /// The injections, in the order in which they are searched: by priority, then by their keys, then by place in a key.
+    pub fn injections(&self) -> &[Injection]
+        ensures { map listed_of result.now ≡ self.now.injections }
+    {
+        self.table.injections()
     }
 
     /// The rules as a table.

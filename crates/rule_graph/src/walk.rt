@@ -6,7 +6,7 @@ ghost use Rattle.rule_table.specs.Views.{rule_of};
 ghost use Rattle.grammar_json.specs.GrammarViews.{grammar_view};
 ghost use Rattle.grammar_json.specs.NamedViews.{named_view};
 ghost use Rattle.graph_defs.specs.ListedRules.{is_there, listed_rules};
-ghost use Rattle.graph_defs.specs.GraphMeaning.{unread};
+ghost use Rattle.graph_defs.specs.GraphMeaning.{unread_texts};
 ghost use Rattle.rule_graph.specs.Walks.{after, with_listed, after_named, after_group, IsSmall};
 
 use crate::includes::Targets;
@@ -184,10 +184,10 @@ impl Walk {
     }
 }
 
-/// All rules of a grammar by their numbers, as its file lists them, and how many texts can't be read.
+/// All rules of a grammar by their numbers, as its file lists them, and how many texts of patterns can't be read.
 pub fn listed(alloc: Global, grammar: &Grammar) -> Result<(Vec<Rule>, u32), AllocError>
     requires { rule_count (grammar_view grammar.now) ≤ MOST_RULES }
-    ensures { IfOk result (λ r. (map rule_of r.0.items ≡ listed_rules (grammar_view grammar.now)) × (r.1 ≡ unread (grammar_view grammar.now))) }
+    ensures { IfOk result (λ r. (map rule_of r.0.items ≡ listed_rules (grammar_view grammar.now)) × (r.1 ≡ unread_texts (grammar_view grammar.now))) }
 {
     let targets = Targets::of(alloc, grammar)?;
     let name = ScopeText::of(alloc, grammar.scope.text())?;

@@ -116,3 +116,49 @@ fn lists_are_added_up_to_the_limit(rt: HostRuntime) -> Result<(), Fail> {
     );
     Ok(())
 }
+
+/// The injections of a grammar in order: the priority, the place in the key, and the number and kind of the rule; and how
+/// many texts and keys can't be read.
+fn told_injections(alloc: Global, file: &str) -> Result<String, Fail> {
+    let mut told = String::new(alloc);
+    match Graph::build(alloc, &grammar(alloc, file)?) {
+        Ok(graph) => {
+            for injection in graph.injections() {
+                write!(
+                    told,
+                    "{} {} {}; ",
+                    injection.priority, injection.entry, injection.rule.0
+                )?;
+            }
+            write!(told, "{}", graph.unread())?;
+        }
+        Err(_) => return Err(Fail::new("there is no graph")),
+    }
+    Ok(told)
+}
+
+#[test]
+fn grammars_have_these_injections(rt: HostRuntime) -> Result<(), Fail> {
+    for (file, injections) in [
+        (r#"{"scopeName":"s"}"#, "0"),
+        (
+            r#"{"scopeName":"s","injections":{"b":{},"R:a":{},"L:c":{}}}"#,
+            "-1 0 1; 0 0 3; 1 0 2; 0",
+        ),
+        (
+            r#"{"scopeName":"s","injections":{"z":{"match":"x"},"a":{"patterns":[{"match":"x"}]},"B":{}}}"#,
+            "0 0 1; 0 0 2; 0 0 4; 0",
+        ),
+        (
+            r#"{"scopeName":"s","patterns":[{"match":"x"}],"repository":{"r":{"match":"x"}},"injections":{"R:a, b, L:c, d":{"match":"x"},"e":{}}}"#,
+            "-1 2 3; 0 1 3; 0 3 3; 0 0 4; 1 0 3; 0",
+        ),
+        (
+            r#"{"scopeName":"s","injections":{"":{},"L:":{},"a |":{},"b":{"match":"("},"c":null}}"#,
+            "0 0 4; 4",
+        ),
+    ] {
+        assert_eq!(rt; told_injections(rt.alloc(), file)?.as_str(), injections);
+    }
+    Ok(())
+}

@@ -1,6 +1,8 @@
 -- How the rules of a table stand for the rules of a run.
 use Rattle.std.specs.Prelude.{ℕ, List, map, option_map}
+use Rattle.std.specs.Rc.{rc_value}
 use Rattle.canonical_patterns.specs.Canonical.{canonical}
+use Rattle.injection_defs.specs.Injections.{Listed}
 use Rattle.rule_defs.specs.Rules.{Kind, Entry, Slot, Rule}
 use Rattle.rule_defs.specs.Rules.{Match as MatchRule, BeginEnd as BeginEndRule, BeginWhile as BeginWhileRule}
 use Rattle.rule_defs.specs.Rules.{Group as GroupRule, Never as NeverSlot, Read as ReadSlot, Later as LaterSlot}
@@ -10,6 +12,7 @@ use Rattle.rule_table.specs.declared.rule.Slot.{Slot as RuleSlot}
 use Rattle.rule_table.specs.declared.rule.Slot.TheVariants.{Never, Read, Later}
 use Rattle.rule_table.specs.declared.rule.RuleCapture.{RuleCapture}
 use Rattle.rule_table.specs.declared.rule.Rule.{Rule as TableRule}
+use Rattle.rule_table.specs.declared.injection.Injection.{Injection}
 use Rattle.rule_table.specs.declared.table.RuleTable.TheInside.{Inside}
 
 abbrev pub kind_of : RuleKind → Kind
@@ -45,10 +48,18 @@ rule_of r = record {
   active = map (λ id. id.0) r.active;
 }
 
--- rules by their numbers, and the most groups of a pattern
+abbrev pub listed_of : Injection → Listed
+listed_of i = record { priority = i.priority; selector = rc_value i.selector; entry = i.entry; rule = i.rule.0 }
+
+-- rules by their numbers, injections in order, and the most groups of a pattern
 pub record Table : Type 0 where
   pub rules : List Rule
+  pub injections : List Listed
   pub groups : ℕ
 
 abbrev pub table_of : Inside → Table
-table_of t = record { rules = map rule_of t.rules.items; groups = t.groups }
+table_of t = record {
+  rules = map rule_of t.rules.items;
+  injections = map listed_of t.injections;
+  groups = t.groups;
+}

@@ -1,7 +1,8 @@
-ghost use Rattle.std.specs.Prelude.{◌≡◌, ◌<◌, ◌≤◌, ◌∷◌, length, map, slice_get, Some};
-ghost use Rattle.rule_table.specs.Views.{rule_of};
-ghost use Rattle.rule_table.specs.Fits.{IsRule, AreRules};
+ghost use Rattle.std.specs.Prelude.{◌≡◌, ◌<◌, ◌≤◌, ◌∷◌, length, map, slice_get, All, Some};
+ghost use Rattle.rule_table.specs.Views.{rule_of, listed_of};
+ghost use Rattle.rule_table.specs.Fits.{IsRule, AreRules, IsInjection};
 
+use crate::injection::{Injection, Injections};
 use crate::rule::Rule;
 use scope_defs::RuleId;
 use std::marker::Model;
@@ -9,10 +10,11 @@ use std::marker::Model;
 /// The most rules of a grammar. The limit is this project's own.
 pub const MOST_RULES: u32 = 65536;
 
-/// The rules of a grammar, and how many groups one of their patterns may have. Rule 0 is the top.
+/// The rules of a grammar, its injections in order, and how many groups one of its patterns may have. Rule 0 is the top.
 #[derive(Drop)]
 pub struct RuleTable {
     rules: Vec<Rule>,
+    injections: Injections,
     groups: u32,
 }
 
@@ -28,13 +30,27 @@ impl Model for RuleTable {
 }
 
 impl RuleTable {
-    pub fn of(rules: Vec<Rule>, groups: u32) -> RuleTable
+    pub fn of(rules: Vec<Rule>, injections: Injections, groups: u32) -> RuleTable
         requires some { 0 < length rules.items }
         requires few { length rules.items ≤ MOST_RULES }
         requires fit { AreRules (length rules.items) groups (map rule_of rules.items) }
-        ensures { result ≡ record { rules = map rule_of rules.items; groups = groups } }
+        requires injections { All (IsInjection (length rules.items)) (map listed_of injections) }
+        ensures { result ≡ record { rules = map rule_of rules.items; injections = map listed_of injections; groups = groups } }
     {
-        RuleTable { rules, groups }
+        RuleTable {
+            rules,
+            injections,
+            groups,
+        }
+    }
+
+    /// The injections, in the order in which they are searched. Their entries are those of their selectors, and their
+    /// rules are of this table.
+    pub fn injections(&self) -> &[Injection]
+        ensures injections { map listed_of result.now ≡ self.now.injections }
+        ensures fit { All (IsInjection (length self.now.rules)) (map listed_of result.now) }
+    {
+        self.injections.as_slice()
     }
 
     /// How many rules there are.

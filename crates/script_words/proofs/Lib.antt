@@ -1,3 +1,4 @@
 mod DataLemmas
 mod EditLemmas
 mod ReplyLemmas
+mod ScopeLemmas

@@ -11,8 +11,10 @@ use Rattle.answer_defs.specs.declared.pair_answer.PairRow.{PairRow}
 use Rattle.answer_defs.specs.declared.pair_answer.GuideRow.{GuideRow}
 use Rattle.answer_defs.specs.declared.pair_answer.Twin.{Twin}
 use Rattle.answer_defs.specs.declared.answer.BracketRow.{BracketRow}
+use Rattle.answer_defs.specs.TokenAnswers.{AnsweredToken}
 use Rattle.answer_defs.specs.declared.answer.Answer.{Answer}
 use Rattle.answer_defs.specs.declared.answer.Answer.TheVariants as answer
+use Rattle.scope_defs.specs.Scopes.{Scopes}
 use Rattle.script_words.specs.declared.refusal.Refusal.{Refusal}
 use Rattle.script_words.specs.declared.refusal.Refusal.TheVariants as refusal
 use Rattle.script_words.specs.declared.reply.Reply.{Reply}
@@ -79,10 +81,22 @@ guide_data g = numbers_data (g.line ∷ g.column ∷ g.level ∷ [])
 abbrev pub guides_data : List GuideRow → Data
 guides_data guides = array (items_of (map guide_data guides))
 
+-- the names of scopes, which are their UTF-8 bytes
+abbrev pub scopes_data : Scopes → Data
+scopes_data scopes = array (items_of (map string scopes))
+
+-- a token: its first column, the column behind its last, its scopes and the number of its type
+abbrev pub token_data : AnsweredToken → Data
+token_data t = array (items_of (whole_number t.from ∷ whole_number t.to ∷ scopes_data t.scopes ∷ whole_number t.kind ∷ []))
+
+abbrev pub tokens_data : List AnsweredToken → Data
+tokens_data tokens = array (items_of (map token_data tokens))
+
 abbrev pub answer_data : Answer → Data
 answer_data (answer.Brackets rows) = only (codes "brackets") (rows_data rows)
 answer_data (answer.Pairs pairs) = only (codes "pairs") (pairs_data pairs)
 answer_data (answer.Guides guides) = only (codes "guides") (guides_data guides)
+answer_data (answer.Tokens tokens) = only (codes "tokens") (tokens_data tokens)
 answer_data (answer.Line chars) = only (codes "line") (chars_data chars)
 answer_data (answer.Match twin) = only (codes "match") (or_null twin_data twin)
 answer_data (answer.Around twin) = only (codes "around") (or_null twin_data twin)

@@ -119,8 +119,9 @@ pair_question key p =
 abbrev pub numbers_command : List ℕ → Data → Option Command
 numbers_command key d =
     if bytes_eq key (codes "line") then option_map (λ n. Ask (question.Line n)) (number_in d)
+    else (if bytes_eq key (codes "tokens") then option_map (λ n. Ask (question.Tokens n)) (number_in d)
     else (if bytes_eq key (codes "turn") then option_and_then turn_of (number_in d)
-    else option_map Ask (option_and_then (pair_question key) (pair_in d)))
+    else option_map Ask (option_and_then (pair_question key) (pair_in d))))
 
 -- the command of an object with this one member
 abbrev pub member_command : List ℕ → Data → Option Command

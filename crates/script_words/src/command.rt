@@ -101,6 +101,9 @@ fn numbers_command(key: &str, member: &Value) -> Option<Command>
     if key == "line" {
         let line = number_in(member)?;
         Some(Command::Ask(Question::Line { line }))
+    } else if key == "tokens" {
+        let line = number_in(member)?;
+        Some(Command::Ask(Question::Tokens { line }))
     } else if key == "turn" {
         turn_of(number_in(member)?)
     } else {

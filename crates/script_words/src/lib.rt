@@ -7,6 +7,7 @@ pub mod reply;
 
 pub use answer_defs::{
     Answer, BracketRow, GuideRow, GuideRows, MarkAt, PairRow, PairRows, Question, Rows, Twin,
+    TypedToken, TypedTokens,
 };
 pub use command::{Command, CommandRefusal};
 pub use line_text::{Edit, Edits};

@@ -1,16 +1,17 @@
 ghost use Rattle.std.specs.Prelude.{◌≡◌, map, IfOk, encode_utf8_all};
 ghost use Rattle.serde_json.specs.Data.{array, string, boolean, object, member, no_members};
 ghost use Rattle.serde_json.specs.View.{view, items_of};
-ghost use Rattle.script_words.specs.ReplyText.{answer_data, chars_data, guide_data, guides_data, mark_data, or_null, pair_data, pairs_data, place_data, reply_data, reply_text, row_data, rows_data, span_data, twin_data, word_of};
+ghost use Rattle.script_words.specs.ReplyText.{answer_data, chars_data, guide_data, guides_data, mark_data, or_null, pair_data, pairs_data, place_data, reply_data, reply_text, row_data, rows_data, scopes_data, span_data, token_data, tokens_data, twin_data, word_of};
 
 use crate::refusal::Refusal;
-use answer_defs::{Answer, BracketRow, GuideRow, MarkAt, PairRow, Twin};
+use answer_defs::{Answer, BracketRow, GuideRow, MarkAt, PairRow, Twin, TypedToken};
+use scope_names::Scopes;
 use serde_json::{Value, json};
 use std::alloc::{AllocError, Global};
 use text_pos::{Bytes, Pos, Span};
 
 /// What is written for a script line, and before the first. The replies are this project's own.
-#[derive(Debug, Drop)]
+#[derive(Drop)]
 pub enum Reply {
     /// How many lines the text has, and how many patterns of the grammar weren't read.
     Opened { lines: u32, unread: u32 },
@@ -79,6 +80,10 @@ fn answer_value(alloc: Global, answer: &Answer) -> Result<Value, AllocError>
         Answer::Guides(guides) => {
             let list = guides_value(alloc, guides.as_slice())?;
             json!(in alloc; {"guides": list})
+        }
+        Answer::Tokens(tokens) => {
+            let list = tokens_value(alloc, tokens.as_slice())?;
+            json!(in alloc; {"tokens": list})
         }
         Answer::Line(chars) => {
             let text = text_value(alloc, chars.as_slice())?;
@@ -174,6 +179,35 @@ fn guide_value(alloc: Global, guide: &GuideRow) -> Result<Value, AllocError>
     ensures { IfOk result (λ v. view v ≡ guide_data guide.now) }
 {
     json!(in alloc; [guide.line, guide.column, guide.level])
+}
+
+fn tokens_value(alloc: Global, tokens: &[TypedToken]) -> Result<Value, AllocError>
+    ensures { IfOk result (λ v. view v ≡ tokens_data tokens.now) }
+{
+    let mut list = Vec::new(alloc);
+    for token in tokens {
+        list.push(token_value(alloc, token)?)?;
+    }
+    Ok(Value::Array(list))
+}
+
+fn token_value(alloc: Global, token: &TypedToken) -> Result<Value, AllocError>
+    ensures { IfOk result (λ v. view v ≡ token_data token.now) }
+{
+    let scopes = scopes_value(alloc, &token.scopes)?;
+    json!(in alloc; [token.from, token.to, scopes, token.kind])
+}
+
+/// The names of scopes. Each is reached from the one behind it, so the list is made from its end.
+fn scopes_value(alloc: Global, scopes: &Scopes) -> Result<Value, AllocError>
+    ensures { IfOk result (λ v. view v ≡ scopes_data scopes.now) }
+{
+    let mut list = Vec::new(alloc);
+    for name in scopes.names_back() {
+        list.push(Value::String(String::from_str(alloc, name)?))?;
+    }
+    list.reverse();
+    Ok(Value::Array(list))
 }
 
 fn twin_or_null(alloc: Global, twin: &Option<Twin>) -> Result<Value, AllocError>

@@ -1,6 +1,7 @@
+use scope_names::Scopes;
 use script_words::{
     Answer, BracketRow, Command, CommandRefusal, GuideRow, GuideRows, MarkAt, PairRow, PairRows,
-    Question, Refusal, Reply, Rows, Twin,
+    Question, Refusal, Reply, Rows, Twin, TypedToken, TypedTokens,
 };
 use std::alloc::{AllocError, Global};
 use std::test::Fail;
@@ -40,6 +41,7 @@ fn asked(alloc: Global, question: Question) -> Result<String, AllocError> {
         Question::Brackets { from, to } => format!(in alloc; "brackets {from} {to}"),
         Question::Pairs { from, to } => format!(in alloc; "pairs {from} {to}"),
         Question::Guides { from, to } => format!(in alloc; "guides {from} {to}"),
+        Question::Tokens { line } => format!(in alloc; "tokens {line}"),
         Question::Line { line } => format!(in alloc; "line {line}"),
         Question::Match { at } => format!(in alloc; "match {}:{}", at.line, at.col),
         Question::Around { at } => format!(in alloc; "around {}:{}", at.line, at.col),
@@ -49,7 +51,7 @@ fn asked(alloc: Global, question: Question) -> Result<String, AllocError> {
 }
 
 /// Lines of a script, and what each means.
-const LINES: [(&[u8], &str); 63] = [
+const LINES: [(&[u8], &str); 70] = [
     (b"{\"pairs\":[1,2]}", "pairs 1 2"),
     (b"{\"guides\":[2,1]}", "guides 2 1"),
     (b"{\"match\":[1,4294967295]}", "match 1:4294967295"),
@@ -59,7 +61,14 @@ const LINES: [(&[u8], &str); 63] = [
     (b"{\"level\":[0,-1]}", "command"),
     (b"{\"match\":1}", "command"),
     (b"{\"jump\":[1,2,3]}", "command"),
-    (b"{\"tokens\":0}", "command"),
+    (b"{\"tokens\":0}", "tokens 0"),
+    (b"{\"tokens\":4294967295}", "tokens 4294967295"),
+    (b"{\"tokens\":4294967296}", "command"),
+    (b"{\"tokens\":-1}", "command"),
+    (b"{\"tokens\":[0]}", "command"),
+    (b"{\"tokens\":[0,0]}", "command"),
+    (b"{\"tokens\":null}", "command"),
+    (b"{\"token\":0}", "command"),
     (b"{\"brackets\":[0,0]}", "brackets 0 0"),
     (b"{\"brackets\":[5,2]}", "brackets 5 2"),
     (
@@ -321,6 +330,55 @@ fn rows_are_written_letter_by_letter(rt: HostRuntime) -> Result<(), Fail> {
     );
     let guides = Answer::Guides(two_guides(alloc)?);
     assert!(rt; is_answered(alloc, guides, "{\"guides\":[[1,2,3],[4,5,6]]}\n")?);
+    Ok(())
+}
+
+/// A token of these scopes.
+fn token(from: u32, to: u32, scopes: Scopes, kind: u32) -> TypedToken {
+    TypedToken {
+        from,
+        to,
+        scopes,
+        kind,
+    }
+}
+
+/// Scopes whose names were pushed at once, and one by one.
+fn some_scopes(alloc: Global) -> Result<Scopes, AllocError> {
+    let outer = Scopes::empty().push(alloc, "s a.b")?;
+    outer.push(alloc, "c")
+}
+
+/// Scopes with names that JSON writes with signs before characters.
+fn odd_scopes(alloc: Global) -> Result<Scopes, AllocError> {
+    let outer = Scopes::empty().push(alloc, "\"\\")?;
+    outer.push(alloc, "\t\u{1f}/\u{e9}\u{1f600}")
+}
+
+#[test]
+fn tokens_are_written_letter_by_letter(rt: HostRuntime) -> Result<(), Fail> {
+    let alloc = rt.alloc();
+    let none = Answer::Tokens(TypedTokens::new(alloc));
+    assert!(rt; is_answered(alloc, none, "{\"tokens\":[]}\n")?);
+    let mut plain = TypedTokens::new(alloc);
+    plain.push(token(0, 4294967295, Scopes::empty(), 0))?;
+    assert!(rt;
+        is_answered(
+            alloc,
+            Answer::Tokens(plain),
+            "{\"tokens\":[[0,4294967295,[],0]]}\n"
+        )?
+    );
+    let mut two = TypedTokens::new(alloc);
+    two.push(token(0, 2, some_scopes(alloc)?, 1))?;
+    two.push(token(2, 7, odd_scopes(alloc)?, 3))?;
+    assert!(rt;
+        is_answered(
+            alloc,
+            Answer::Tokens(two),
+            "{\"tokens\":[[0,2,[\"s\",\"a.b\",\"c\"],1],[2,7,[\"\\\"\\\\\",\"\\t\\u001f/\u{e9}\u{1f600}\"],3]]}\n"
+        )?
+    );
     Ok(())
 }
 

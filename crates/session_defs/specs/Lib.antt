@@ -1,3 +1,5 @@
+pub mod OnLiterals
+pub mod Opening
 pub mod Output
 pub mod Session
 pub mod SessionExamples

@@ -12,6 +12,7 @@ use Rattle.script_words.specs.declared.reply.Reply.TheVariants as reply
 use Rattle.answer_defs.specs.Answers.{question_refusal}
 use Rattle.document_defs.specs.TextRows.{Settings}
 use Rattle.document_defs.specs.DocumentAnswers.{answer_of}
+use Rattle.session_defs.specs.Opening.{Session}
 use Rattle.script_words.specs.ReplyText.{reply_text}
 use Rattle.script_words.specs.Script.{Reading, refused, command, reading_of}
 use Rattle.script_words.specs.declared.command.Command.{Command}
@@ -66,6 +67,6 @@ abbrev pub text_behind : Settings → List ℕ → List Reading → List ℕ
 text_behind settings text [] = text
 text_behind settings text (r ∷ rs) = text_behind settings (reading_step settings text r).text rs
 
--- the open reply; no pattern is unread, since there is no grammar to read patterns of
-abbrev pub opened : List ℕ → Reply
-opened text = reply.Opened (line_count text) 0
+-- the open reply
+abbrev pub opened : Session → Reply
+opened session = reply.Opened (line_count session.text) session.unread

@@ -1,6 +1,7 @@
 -- Worked examples of script lines, replies, command lines and whole sessions. Each holds by computing alone,
 -- but for the one on lines that are too long, of which no list of that length is written out.
-use Rattle.std.specs.Prelude.{◌≡◌, ℕ, List, [], ◌∷◌, ◌++◌, length, map, replicate, nat_lt, true, false, if◌then◌else◌, codes, refl, Some, None}
+use Rattle.std.specs.Prelude.{◌≡◌, ℕ, List, [], ◌∷◌, ◌++◌, length, map, replicate, nat_lt, true, false}
+use Rattle.std.specs.Prelude.{if◌then◌else◌, codes, refl, Some, None, is_some}
 use Prim.Native.String.{String}
 use Rattle.std.proofs.Common.{ap}
 use Rattle.std.specs.Str.{chars, is_utf8}
@@ -17,10 +18,16 @@ use Rattle.script_words.specs.declared.reply.Reply.TheVariants as reply
 use Rattle.script_words.specs.declared.command.Command.TheVariants.{Ask, Turn}
 use Rattle.script_words.specs.Script.{refused, command, meaning_of, reading_of}
 use Rattle.answer_defs.specs.Answers.{is_range}
-use Rattle.document_defs.specs.TextRows.{rows_of, usual}
+use Rattle.pairing_defs.specs.Marks.{usual_texts}
+use Rattle.document_defs.specs.TextRows.{Settings, rows_of}
+use Rattle.answer_defs.specs.TokenAnswers.{tokens_in}
 use Rattle.script_words.specs.ReplyText.{reply_text}
-use Rattle.session_defs.specs.Words.{request_of, limits_with}
-use Rattle.session_defs.specs.Output.{output_of, written_so_far, is_accepted}
+use Rattle.text_pos.specs.declared.limits.Limits.{Limits}
+use Rattle.session_defs.specs.declared.file_kind.FileKind.TheVariants as kind
+use Rattle.session_defs.specs.Words.{request_of, limits_with, text_alone}
+use Rattle.session_defs.specs.Opening.{Inputs, settings_for, is_accepted, session_of}
+use Rattle.session_defs.specs.OnLiterals.{runs_on_literals}
+use Rattle.session_defs.specs.Output.{output_of, written_so_far}
 
 -- a text and its LF
 abbrev pub line : String → List ℕ
@@ -28,6 +35,13 @@ line text = codes text ++ 10 ∷ []
 
 abbrev pub row : ℕ → ℕ → ℕ → ℕ → ℕ → ℕ → BracketRow
 row l f t level own colour = record { at = record { line = l; from = f; to = t }; level = level; own = own; colour = colour }
+
+-- a text without a grammar and a bracket file
+abbrev pub alone : List ℕ → Inputs
+alone text = record { text = text; grammar = None; brackets = None }
+
+abbrev pub plain : Limits → Settings
+plain limits = settings_for limits None usual_texts
 
 -- ---- script lines
 
@@ -37,6 +51,13 @@ pub commands : map reading_of
     ≡ command (Ask (question.Brackets 0 1)) ∷ command (Ask (question.Line 4294967295)) ∷ command (Turn 1) ∷ command (Turn 262144) ∷ []
 unfolding serde_json_on_literals chars is_utf8 utf8_valid_len encode
 commands = refl
+
+-- a question for the tokens of a line, at the ends of its range and past them
+pub question_for_tokens : map reading_of
+    (codes "{\"tokens\":0}" ∷ codes "{\"tokens\":4294967295}" ∷ codes "{\"tokens\":4294967296}" ∷ [])
+    ≡ command (Ask (question.Tokens 0)) ∷ command (Ask (question.Tokens 4294967295)) ∷ refused refusal.Command ∷ []
+unfolding serde_json_on_literals chars is_utf8 utf8_valid_len encode
+question_for_tokens = refl
 
 -- white space counts nothing, a CR at the end too, and a key may be written with escapes
 pub white_space_and_escapes : map reading_of
@@ -109,6 +130,14 @@ pub reply_of_brackets :
 unfolding serde_json_on_literals encode digits
 reply_of_brackets = refl
 
+-- a token of no scopes, and one of two, where a name is written as a JSON string and the last one sets the type
+pub reply_of_tokens :
+    reply_text (reply.Answered (answer.Tokens (tokens_in
+    (record { from = 0; to = 2; scopes = [] } ∷ record { from = 2; to = 7; scopes = codes "s" ∷ codes "string.\"" ∷ [] } ∷ []))))
+    ≡ line "{\"tokens\":[[0,2,[],0],[2,7,[\"s\",\"string.\\\"\"],2]]}"
+unfolding serde_json_on_literals digits
+reply_of_tokens = refl
+
 -- the other replies
 pub other_replies :
     map reply_text (reply.Opened 262144 0 ∷ reply.Edited 2 ∷ reply.Turned ∷ reply.Refused refusal.Command ∷ reply.Answered (answer.Brackets []) ∷ [])
@@ -129,10 +158,34 @@ reply_of_a_line = refl
 pub command_lines : map request_of
     ((codes "brackets" ∷ codes "t" ∷ []) ∷ (codes "brackets" ∷ codes "-" ∷ []) ∷ (codes "brackets" ∷ codes "t" ∷ codes "--nesting" ∷ codes "0200" ∷ [])
     ∷ (codes "brackets" ∷ codes "t" ∷ codes "--nesting" ∷ codes "1" ∷ []) ∷ (codes "brackets" ∷ codes "t" ∷ codes "--nesting" ∷ codes "0000000300" ∷ []) ∷ [])
-    ≡ Some (record { text = codes "t"; limits = limits_with 200 }) ∷ Some (record { text = codes "-"; limits = limits_with 200 })
-    ∷ Some (record { text = codes "t"; limits = limits_with 200 }) ∷ Some (record { text = codes "t"; limits = limits_with 1 })
-    ∷ Some (record { text = codes "t"; limits = limits_with 300 }) ∷ []
+    ≡ Some (text_alone (codes "t") 200) ∷ Some (text_alone (codes "-") 200) ∷ Some (text_alone (codes "t") 200)
+    ∷ Some (text_alone (codes "t") 1) ∷ Some (text_alone (codes "t") 300) ∷ []
 command_lines = refl
+
+-- all options, in another order than they are listed in; a file may be `-` here too
+pub all_options : request_of
+    (codes "brackets" ∷ codes "t" ∷ codes "--tab" ∷ codes "8" ∷ codes "--grammar" ∷ codes "g" ∷ codes "--steps" ∷ codes "100" ∷ codes "--brackets" ∷ codes "-"
+    ∷ codes "--nesting" ∷ codes "7" ∷ codes "--long" ∷ codes "1000000" ∷ [])
+    ≡ Some (record { text = codes "t"; grammar = Some (codes "g"); brackets = Some (codes "-");
+    limits = record { nesting = 7; budget = 100; long = 1000000; tab = 8 } })
+all_options = refl
+
+-- an option twice, even with one value; an unknown one; one without a value; a file that begins with `-`, and an empty one
+pub options_that_are_refused : map request_of
+    ((codes "brackets" ∷ codes "t" ∷ codes "--tab" ∷ codes "4" ∷ codes "--tab" ∷ codes "4" ∷ [])
+    ∷ (codes "brackets" ∷ codes "t" ∷ codes "--colour" ∷ codes "4" ∷ []) ∷ (codes "brackets" ∷ codes "t" ∷ codes "--grammar" ∷ [])
+    ∷ (codes "brackets" ∷ codes "t" ∷ codes "--grammar" ∷ codes "-g" ∷ []) ∷ (codes "brackets" ∷ codes "t" ∷ codes "--brackets" ∷ [] ∷ [])
+    ∷ (codes "brackets" ∷ codes "t" ∷ codes "--grammar" ∷ codes "g" ∷ codes "u" ∷ []) ∷ [])
+    ≡ replicate 6 None
+options_that_are_refused = refl
+
+-- the ends of the ranges, and what lies behind them
+pub ranges_of_options : map (λ w. is_some (request_of (codes "brackets" ∷ codes "t" ∷ w)))
+    ((codes "--steps" ∷ codes "99" ∷ []) ∷ (codes "--steps" ∷ codes "1000001" ∷ []) ∷ (codes "--long" ∷ codes "0" ∷ [])
+    ∷ (codes "--long" ∷ codes "1000001" ∷ []) ∷ (codes "--tab" ∷ codes "0" ∷ []) ∷ (codes "--tab" ∷ codes "33" ∷ [])
+    ∷ (codes "--steps" ∷ codes "1000000" ∷ []) ∷ (codes "--long" ∷ codes "1" ∷ []) ∷ (codes "--tab" ∷ codes "32" ∷ []) ∷ [])
+    ≡ replicate 6 false ++ replicate 3 true
+ranges_of_options = refl
 
 -- the other limits: 100,000 visits, 20,000 characters of a line and 4 columns of a tab
 pub limits_that_no_word_names : limits_with 200 ≡ record { nesting = 200; budget = 100000; long = 20000; tab = 4 }
@@ -145,66 +198,66 @@ pub words_without_a_name : map request_of
     ≡ replicate 6 None
 words_without_a_name = refl
 
--- limits of 0, 301, of no digits, of other characters and of eleven digits, no limit, and another option
+-- limits of 0, 301, of no digits, of other characters and of eleven digits, no limit, an option before the name, and
+-- one with `=`
 pub words_without_a_limit : map request_of
     ((codes "brackets" ∷ codes "t" ∷ codes "--nesting" ∷ codes "0" ∷ []) ∷ (codes "brackets" ∷ codes "t" ∷ codes "--nesting" ∷ codes "301" ∷ [])
     ∷ (codes "brackets" ∷ codes "t" ∷ codes "--nesting" ∷ [] ∷ []) ∷ (codes "brackets" ∷ codes "t" ∷ codes "--nesting" ∷ codes "+5" ∷ [])
     ∷ (codes "brackets" ∷ codes "t" ∷ codes "--nesting" ∷ codes "00000000200" ∷ []) ∷ (codes "brackets" ∷ codes "t" ∷ codes "--nesting" ∷ [])
-    ∷ (codes "brackets" ∷ codes "t" ∷ codes "--tab" ∷ codes "4" ∷ []) ∷ (codes "brackets" ∷ codes "t" ∷ codes "--tab" ∷ codes "4" ∷ codes "--tab" ∷ codes "4" ∷ [])
     ∷ (codes "brackets" ∷ codes "--nesting" ∷ codes "4" ∷ codes "t" ∷ []) ∷ (codes "brackets" ∷ codes "t" ∷ codes "--grammar=" ∷ []) ∷ [])
-    ≡ replicate 10 None
+    ≡ replicate 8 None
 words_without_a_limit = refl
 
 -- ---- sessions
 
 -- a closer takes the last opener of its kind, and the opener between has no partner
 pub session_of_crossing_brackets :
-    output_of (limits_with 200) (codes "([)]") (line "{\"brackets\":[0,0]}")
+    output_of (limits_with 200) (alone (codes "([)]")) (line "{\"brackets\":[0,0]}")
     ≡ line "{\"opened\":1,\"unread\":0}" ++ line "{\"brackets\":[[0,0,1,0,0,0],[0,1,2,1,0,6],[0,2,3,0,0,0],[0,3,4,0,0,6]]}"
-unfolding serde_json_on_literals chars is_utf8 utf8_valid_len encode digits words_on_literals
+unfolding serde_json_on_literals chars is_utf8 utf8_valid_len encode digits words_on_literals runs_on_literals
 session_of_crossing_brackets = refl
 
 -- an empty file has one line and no brackets; without a script there is the open reply alone
 pub session_of_an_empty_file :
-    (output_of (limits_with 200) [] (line "{\"brackets\":[0,0]}") ≡ line "{\"opened\":1,\"unread\":0}" ++ line "{\"brackets\":[]}")
-    × (output_of (limits_with 200) [] [] ≡ line "{\"opened\":1,\"unread\":0}")
-unfolding serde_json_on_literals chars is_utf8 utf8_valid_len encode digits words_on_literals
+    (output_of (limits_with 200) (alone []) (line "{\"brackets\":[0,0]}") ≡ line "{\"opened\":1,\"unread\":0}" ++ line "{\"brackets\":[]}")
+    × (output_of (limits_with 200) (alone []) [] ≡ line "{\"opened\":1,\"unread\":0}")
+unfolding serde_json_on_literals chars is_utf8 utf8_valid_len encode digits words_on_literals runs_on_literals
 session_of_an_empty_file = (refl, refl)
 
 -- an unexpected closer has colour 6; a range may hold a part of the lines; a turn changes nothing
 pub session_of_an_unexpected_closer :
-    output_of (limits_with 200) (10 ∷ codes "a ) b") (line "{\"brackets\":[0,1]}" ++ line "{\"turn\":5}" ++ line "{\"brackets\":[0,0]}")
+    output_of (limits_with 200) (alone (10 ∷ codes "a ) b")) (line "{\"brackets\":[0,1]}" ++ line "{\"turn\":5}" ++ line "{\"brackets\":[0,0]}")
     ≡ line "{\"opened\":2,\"unread\":0}" ++ line "{\"brackets\":[[1,2,3,0,0,6]]}" ++ line "{\"turned\":true}" ++ line "{\"brackets\":[]}"
-unfolding serde_json_on_literals chars is_utf8 utf8_valid_len encode digits words_on_literals
+unfolding serde_json_on_literals chars is_utf8 utf8_valid_len encode digits words_on_literals runs_on_literals
 session_of_an_unexpected_closer = refl
 
 -- an opener at the nesting limit has no row, and the closer that it would have had closes another
 pub session_at_the_nesting_limit :
-    output_of (limits_with 2) (codes "((()))") (line "{\"brackets\":[0,0]}")
+    output_of (limits_with 2) (alone (codes "((()))")) (line "{\"brackets\":[0,0]}")
     ≡ line "{\"opened\":1,\"unread\":0}" ++ line "{\"brackets\":[[0,0,1,0,0,0],[0,1,2,1,1,1],[0,3,4,1,1,1],[0,4,5,0,0,0],[0,5,6,0,0,6]]}"
-unfolding serde_json_on_literals chars is_utf8 utf8_valid_len encode digits words_on_literals
+unfolding serde_json_on_literals chars is_utf8 utf8_valid_len encode digits words_on_literals runs_on_literals
 session_at_the_nesting_limit = refl
 
 -- each line end ends a line; a refusal changes nothing; an empty line of the script has a reply, and so have
 -- bytes behind the last LF
 pub session_of_four_lines :
-    output_of (limits_with 200) (97 ∷ 13 ∷ 10 ∷ 98 ∷ 13 ∷ 99 ∷ 10 ∷ 100 ∷ []) (line "{\"line\":4}" ++ line "" ++ line "[]" ++ codes "{\"line\":1}")
+    output_of (limits_with 200) (alone (97 ∷ 13 ∷ 10 ∷ 98 ∷ 13 ∷ 99 ∷ 10 ∷ 100 ∷ [])) (line "{\"line\":4}" ++ line "" ++ line "[]" ++ codes "{\"line\":1}")
     ≡ line "{\"opened\":4,\"unread\":0}" ++ line "{\"refused\":\"line\"}" ++ line "{\"refused\":\"json\"}" ++ line "{\"refused\":\"command\"}" ++ line "{\"line\":\"b\"}"
-unfolding serde_json_on_literals chars is_utf8 utf8_valid_len encode digits words_on_literals
+unfolding serde_json_on_literals chars is_utf8 utf8_valid_len encode digits words_on_literals runs_on_literals
 session_of_four_lines = refl
 
 -- while more may come, bytes behind the last LF have no reply; of blanks without an LF there is the open reply alone
 pub unfinished_line_has_no_reply :
-    (written_so_far (limits_with 200) (codes "a") (line "{\"line\":0}" ++ codes "{\"line\":0}") ≡ line "{\"opened\":1,\"unread\":0}" ++ line "{\"line\":\"a\"}")
-    × (written_so_far (limits_with 200) (codes "a") (replicate 100 32) ≡ line "{\"opened\":1,\"unread\":0}")
-unfolding serde_json_on_literals chars is_utf8 utf8_valid_len encode digits words_on_literals
+    (written_so_far (limits_with 200) (alone (codes "a")) (line "{\"line\":0}" ++ codes "{\"line\":0}") ≡ line "{\"opened\":1,\"unread\":0}" ++ line "{\"line\":\"a\"}")
+    × (written_so_far (limits_with 200) (alone (codes "a")) (replicate 100 32) ≡ line "{\"opened\":1,\"unread\":0}")
+unfolding serde_json_on_literals chars is_utf8 utf8_valid_len encode digits words_on_literals runs_on_literals
 unfinished_line_has_no_reply = (refl, refl)
 
 -- a range is refused where it ends before it begins or past the last line
 pub ranges_that_are_refused :
-    output_of (limits_with 200) (line "(") (line "{\"brackets\":[1,0]}" ++ line "{\"brackets\":[0,2]}" ++ line "{\"brackets\":[0,1]}")
+    output_of (limits_with 200) (alone (line "(")) (line "{\"brackets\":[1,0]}" ++ line "{\"brackets\":[0,2]}" ++ line "{\"brackets\":[0,1]}")
     ≡ line "{\"opened\":2,\"unread\":0}" ++ line "{\"refused\":\"line\"}" ++ line "{\"refused\":\"line\"}" ++ line "{\"brackets\":[[0,0,1,0,0,6]]}"
-unfolding serde_json_on_literals chars is_utf8 utf8_valid_len encode digits words_on_literals
+unfolding serde_json_on_literals chars is_utf8 utf8_valid_len encode digits words_on_literals runs_on_literals
 ranges_that_are_refused = refl
 
 -- a range has at most 4,096 lines, ends at its start or later, and within the text
@@ -214,51 +267,51 @@ ranges = refl
 
 -- partners, and where insides end: at the closer that removed the opener, or at the text's end
 pub partners_and_inner_ends :
-    (map (λ r. r.partner) (rows_of (usual (limits_with 200)) (codes "([)]{")) ≡ Some 2 ∷ None ∷ Some 0 ∷ None ∷ None ∷ [])
-    × (map (λ r. r.inner.col) (rows_of (usual (limits_with 200)) (codes "([)]{")) ≡ 2 ∷ 2 ∷ 2 ∷ 3 ∷ 5 ∷ [])
-unfolding words_on_literals
+    (map (λ r. r.partner) (rows_of (plain (limits_with 200)) (codes "([)]{")) ≡ Some 2 ∷ None ∷ Some 0 ∷ None ∷ None ∷ [])
+    × (map (λ r. r.inner.col) (rows_of (plain (limits_with 200)) (codes "([)]{")) ≡ 2 ∷ 2 ∷ 2 ∷ 3 ∷ 5 ∷ [])
+unfolding words_on_literals runs_on_literals
 partners_and_inner_ends = (refl, refl)
 
 -- an opener at the limit has no row's number, so the closer behind it is row 1
-pub partners_at_the_nesting_limit : map (λ r. r.partner) (rows_of (usual (limits_with 1)) (codes "([)]")) ≡ Some 1 ∷ Some 0 ∷ None ∷ []
-unfolding words_on_literals
+pub partners_at_the_nesting_limit : map (λ r. r.partner) (rows_of (plain (limits_with 1)) (codes "([)]")) ≡ Some 1 ∷ Some 0 ∷ None ∷ []
+unfolding words_on_literals runs_on_literals
 partners_at_the_nesting_limit = refl
 
 -- a line of as many characters as the limit has no brackets; one with a character less has
 pub session_of_a_long_line :
-    output_of (record { nesting = 200; budget = 100000; long = 4; tab = 4 }) (line "(aa" ++ codes ")aaa") (line "{\"brackets\":[0,1]}")
+    output_of (record { nesting = 200; budget = 100000; long = 4; tab = 4 }) (alone (line "(aa" ++ codes ")aaa")) (line "{\"brackets\":[0,1]}")
     ≡ line "{\"opened\":2,\"unread\":0}" ++ line "{\"brackets\":[[0,0,1,0,0,6]]}"
-unfolding serde_json_on_literals chars is_utf8 utf8_valid_len encode digits words_on_literals
+unfolding serde_json_on_literals chars is_utf8 utf8_valid_len encode digits words_on_literals runs_on_literals
 session_of_a_long_line = refl
 
 -- the byte 255 is no text, an empty file is one
-pub files_that_are_accepted : map is_accepted ((255 ∷ []) ∷ [] ∷ codes "a" ∷ []) ≡ false ∷ true ∷ true ∷ []
+pub files_that_are_accepted : map (is_accepted kind.Text) ((255 ∷ []) ∷ [] ∷ codes "a" ∷ []) ≡ false ∷ true ∷ true ∷ []
 unfolding chars is_utf8 utf8_valid_len encode
 files_that_are_accepted = refl
 
 -- an edit in a session: both spans of a batch are places of the text before it, and a refused batch changes nothing
 pub edits_of_a_session :
-    output_of (limits_with 200) (codes "abc") (line "{\"edit\":[[0,0,0,1,\"x\"],[0,2,0,3,\"yy\"]]}" ++ line "{\"edit\":[[0,2,0,3,\"q\"],[0,0,0,1,\"q\"]]}" ++ line "{\"edit\":[]}" ++ line "{\"line\":0}")
+    output_of (limits_with 200) (alone (codes "abc")) (line "{\"edit\":[[0,0,0,1,\"x\"],[0,2,0,3,\"yy\"]]}" ++ line "{\"edit\":[[0,2,0,3,\"q\"],[0,0,0,1,\"q\"]]}" ++ line "{\"edit\":[]}" ++ line "{\"line\":0}")
     ≡ line "{\"opened\":1,\"unread\":0}" ++ line "{\"edited\":1}" ++ line "{\"refused\":\"order\"}" ++ line "{\"edited\":1}" ++ line "{\"line\":\"xbyy\"}"
-unfolding serde_json_on_literals chars is_utf8 utf8_valid_len encode digits words_on_literals
+unfolding serde_json_on_literals chars is_utf8 utf8_valid_len encode digits words_on_literals runs_on_literals
 edits_of_a_session = refl
 
 -- the bracket at a place, the pair around it and where to jump; a place behind its line and a line that isn't there
 pub session_of_places :
-    output_of (limits_with 200) (codes "()")
+    output_of (limits_with 200) (alone (codes "()"))
     (line "{\"match\":[0,1]}" ++ line "{\"around\":[0,1]}" ++ line "{\"jump\":[0,2]}" ++ line "{\"around\":[0,0]}" ++ line "{\"level\":[0,1]}"
     ++ line "{\"level\":[0,3]}" ++ line "{\"match\":[1,9]}")
     ≡ line "{\"opened\":1,\"unread\":0}" ++ line "{\"match\":[[0,1,2],[0,0,1]]}" ++ line "{\"around\":[[0,0,1],[0,1,2]]}" ++ line "{\"jump\":[0,0]}"
     ++ line "{\"around\":null}" ++ line "{\"level\":1}" ++ line "{\"refused\":\"place\"}" ++ line "{\"refused\":\"line\"}"
-unfolding serde_json_on_literals chars is_utf8 utf8_valid_len encode digits words_on_literals
+unfolding serde_json_on_literals chars is_utf8 utf8_valid_len encode digits words_on_literals runs_on_literals
 session_of_places = refl
 
 -- pairs that reach into a line, the last without closer, and guides
 pub session_of_pairs_and_guides :
-    output_of (limits_with 200) (line "{" ++ line "  (a" ++ line "  )[" ++ codes "}")
+    output_of (limits_with 200) (alone (line "{" ++ line "  (a" ++ line "  )[" ++ codes "}"))
     (line "{\"pairs\":[2,2]}" ++ line "{\"guides\":[0,3]}" ++ line "{\"pairs\":[2,1]}" ++ line "{\"jump\":[3,1]}")
     ≡ line "{\"opened\":4,\"unread\":0}"
     ++ line "{\"pairs\":[[[0,0,1],[3,0,1],0,0],[[1,2,3],[2,2,3],1,0],[[2,3,4],null,1,0]]}"
     ++ line "{\"guides\":[[1,0,0],[2,0,0],[2,2,1],[3,0,0]]}" ++ line "{\"refused\":\"line\"}" ++ line "{\"jump\":[0,0]}"
-unfolding serde_json_on_literals chars is_utf8 utf8_valid_len encode digits words_on_literals
+unfolding serde_json_on_literals chars is_utf8 utf8_valid_len encode digits words_on_literals runs_on_literals
 session_of_pairs_and_guides = refl

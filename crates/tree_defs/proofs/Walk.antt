@@ -25,12 +25,12 @@ pub or_right : (a b : Bool) → (a || b) ≡ false → b ≡ false
 or_right true b h = absurd (cc)
 or_right false b h = h
 
-clear_less : (a b : Items) (es : List Entry) → ((k : ℕ) → missed_in a k ≡ false → missed_in b k ≡ false) → Clear a es
+pub clear_less : (a b : Items) (es : List Entry) → ((k : ℕ) → missed_in a k ≡ false → missed_in b k ≡ false) → Clear a es
     → Clear b es
 clear_less a b [] less clear = tt
 clear_less a b (e ∷ es) less clear = (less e.kind clear.0, clear_less a b es less clear.1)
 
-lone_clear : (len : Length) (kinds : Kinds) (rest : Items) (es : List Entry) → Clear (lone len kinds rest) es
+pub lone_clear : (len : Length) (kinds : Kinds) (rest : Items) (es : List Entry) → Clear (lone len kinds rest) es
     → NoneIn kinds es
 lone_clear len kinds rest [] clear = tt
 lone_clear len kinds rest (e ∷ es) clear =
@@ -40,7 +40,7 @@ abbrev pub Walks : ℕ → Items → Type 0
 Walks limit items = (at : Length) (ms : List Mark) (s : Open) → Stands limit (length s.entries) items at ms
     → Clear items s.entries → Walked limit items at ms s
 
-deeper : (es : List Entry) (e : Entry) → length es + 1 ≡ length (e ∷ es)
+pub deeper : (es : List Entry) (e : Entry) → length es + 1 ≡ length (e ∷ es)
 deeper es e = omega arith
 
 at_limit : (limit n : ℕ) → limit ≤ n → nat_le limit n ≡ true
@@ -74,7 +74,7 @@ no_rows : (limit : ℕ) (ms : List Mark) (s : Open) → limit ≤ length s.entri
 no_rows limit [] s full are = (refl, refl)
 no_rows limit (m ∷ ms) s full are = no_row limit m ms s m.role refl full are.0 (no_rows limit ms s full are.1)
 
-no_cuts : (limit level : ℕ) (cut : Bool) (ms : List Mark) (s : Open) → level ≡ length s.entries
+pub no_cuts : (limit level : ℕ) (cut : Bool) (ms : List Mark) (s : Open) → level ≡ length s.entries
     → AreCut limit level cut ms → (placed_from limit s ms ≡ []) × (open_after limit s ms ≡ s)
 no_cuts limit level true [] s is are = absurd are
 no_cuts limit level true (m ∷ ms) s is are = no_rows limit (m ∷ ms) s (let h = are.0 in omega arith) are.1

@@ -1,3 +1,5 @@
+pub mod Cuts
+pub mod Ends
 pub mod Items
 pub mod Reuse
 pub mod Rows

@@ -5,5 +5,6 @@
 pub mod laws;
 
 pub use laws::{
-    nodes_can_be_reused, standing_trees_have_the_rows, trees_have_the_rows_of_the_pairing,
+    cut_texts_hold_the_openers_at_the_limit, nodes_can_be_reused, standing_trees_have_the_rows,
+    trees_have_the_rows_of_the_pairing,
 };

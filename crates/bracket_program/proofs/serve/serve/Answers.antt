@@ -4,6 +4,7 @@ use Rattle.piece_io.specs.Told.{appended}
 use Rattle.script_words.specs.ReplyText.{reply_text}
 use Rattle.session_defs.specs.Output.{most_script_bytes}
 use Rattle.bracket_program.specs.Ends.{outside, WritesFront}
+use Rattle.bracket_program.specs.Sessions.{session_in}
 use Rattle.bracket_program.proofs.ServingLaws.{serving-start, serving-more, serving-done, serving-cut, front-at}
 use Rattle.bracket_program.proofs.ServingLaws.{front-more, front-last, front-opened, front-nothing, reply-end}
 use Rattle.bracket_program.proofs.serve.serve.Goals as goal
@@ -16,10 +17,9 @@ returns-in_err-buffer-clause-ends g c =
     let writes = g.K.Sink.faults in
     let before = outside (left c.args.script.now) (held c.args.sink.now) (reads c.args.script.now)
     (writes c.args.sink.now) in
-    let settings = c.args.document.now.settings in
-    let text = c.args.document.now.text in
+    let session = session_in c.args.document.now in
     let p = err_from_is_err_and c.from_residual-in_err-buffer.result c.from_residual-in_err-buffer.ensures.1 in
-    rw (p.1, p.2) (front-nothing before before settings text refl, refl, refl)
+    rw (p.1, p.2) (front-nothing before before session refl, refl, refl)
 
 pub returns-in_err-write_reply-clause-ends : goal.returns-in_err-write_reply-clause-ends
 returns-in_err-write_reply-clause-ends g c =
@@ -29,20 +29,19 @@ returns-in_err-write_reply-clause-ends g c =
     let writes = g.K.Sink.faults in
     let before = outside (left c.args.script.now) (held c.args.sink.now) (reads c.args.script.now)
     (writes c.args.sink.now) in
-    let settings = c.args.document.now.settings in
-    let text = c.args.document.now.text in
+    let session = session_in c.args.document.now in
     let after = outside (left c.args.script.now) (held c.write_reply.new.sink) (reads c.args.script.now)
     (writes c.write_reply.new.sink) in
     let front = subst (λ r. WritesFront (held c.args.sink.now) (held c.write_reply.new.sink) (reply_text r))
     c.opened.ensures c.in_err-write_reply.ensures.front in
     let p = err_from_is_err_and c.from_residual-in_err-write_reply.result
     c.from_residual-in_err-write_reply.ensures.1 in
-    rw (p.1, p.2) (reply-end before after settings text before.writes _ refl refl c.in_err-write_reply.ensures.ends
-    (front-opened before after settings text front))
+    rw (p.1, p.2) (reply-end before after session before.writes _ refl refl c.in_err-write_reply.ensures.ends
+    (front-opened before after session front))
 
 pub loop-taken-init : goal.loop-taken-init
 loop-taken-init g c = record {
-  serving = serving-start _ _ _ _ _ refl (c.in_ok-write_reply.ensures.ok
+  serving = serving-start _ _ _ _ refl (c.in_ok-write_reply.ensures.ok
       ∙ ap (λ r. appended (g.K.Sink.held c.args.sink.now) (reply_text r)) c.opened.ensures) refl
       c.in_ok-write_reply.ensures.counts c.in_ok-cutter.ensures.cuts c.in_ok-cutter.ensures.ended;
   settings = refl;
@@ -102,7 +101,7 @@ returns-in_err-reply_to_lines-clause-ends g c =
     c.from_residual-in_err-reply_to_lines.ensures.1 in
     let serving = c.loop-taken.invariant.serving in
     rw (p.1, p.2)
-    (reply-end before after c.args.document.now.settings c.args.document.now.text (writes c.loop-taken.sink) _
+    (reply-end before after (session_in c.args.document.now) (writes c.loop-taken.sink) _
     serving.writes_stand (c.in-Ok.ensures.counts ∙ serving.reads_stand) c.in_err-reply_to_lines.ensures.ends
     (front-last after _ c.end.new.self c.in-Ok.come c.read_piece.new.buffer c.loop-taken.invariant.settings serving
     c.if-come-eq0.true c.in-Ok.ensures.gives c.end.ensures.cuts c.end.ensures.ended
@@ -122,7 +121,7 @@ returns-in_err-reply_to_lines-2-clause-ends g c =
     c.from_residual-in_err-reply_to_lines-2.ensures.1 in
     let serving = c.loop-taken.invariant.serving in
     rw (p.1, p.2)
-    (reply-end before after c.args.document.now.settings c.args.document.now.text (writes c.loop-taken.sink) _
+    (reply-end before after (session_in c.args.document.now) (writes c.loop-taken.sink) _
     serving.writes_stand (c.in-Ok.ensures.counts ∙ serving.reads_stand) c.in_err-reply_to_lines-2.ensures.ends
     (front-more after _ c.feed.new.self c.in-Ok.come c.read_piece.new.buffer c.loop-taken.invariant.settings serving
     c.in-Ok.ensures.gives c.in_ok-feed.ensures.ok c.in_ok-feed.ensures.ended
@@ -141,4 +140,4 @@ returns-in_err-cutter-clause-ends g c =
     (g.S.Source.faults c.args.script.now) (g.K.Sink.faults c.args.sink.now) in
     let p = err_from_is_err_and c.from_residual.result c.from_residual.ensures.1 in
     rw (p.1, p.2)
-    (front-nothing before before c.args.document.now.settings c.args.document.now.text refl, refl, refl)
+    (front-nothing before before (session_in c.args.document.now) refl, refl, refl)

@@ -2,6 +2,7 @@ use Rattle.std.proofs.Common.{◌≡◌, ◌-◌, ◌≤◌}
 use Rattle.session_defs.specs.Output.{most_script_bytes}
 use Rattle.bracket_program.specs.Ends.{outside}
 use Rattle.bracket_program.specs.Serving.{Serving}
+use Rattle.bracket_program.specs.Sessions.{session_in, settings_in}
 use Rattle.bracket_program.proofs.serve.serve.Given as goal
 
 -- each whole line of what was taken has its reply
@@ -14,8 +15,8 @@ invariant-loop-taken g l =
     record {
       serving : Serving (outside (left l.fn.script) (held l.fn.sink) (reads l.fn.script) (writes l.fn.sink))
           (outside (left l.script) (held l.sink) (reads l.script) (writes l.sink))
-          l.fn.document.settings l.fn.document.text l.document.text l.cutter l.taken;
-      settings : l.document.settings ≡ l.fn.document.settings;
+          (session_in l.fn.document) l.document.text l.cutter l.taken;
+      settings : settings_in l.document ≡ settings_in l.fn.document;
       few : l.taken ≤ most_script_bytes;
     }
 

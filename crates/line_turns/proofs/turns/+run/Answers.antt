@@ -12,7 +12,7 @@ use Rattle.line_turns.specs.Over.{run_of, machine_over, few_at, IsReady}
 use Rattle.line_turns.specs.Telling.{Telling, all_told}
 use Rattle.line_turns.specs.Then.{turned_of, matched_of}
 use Rattle.line_turns.proofs.Begins.{begun-full, begun-more, content-told, depth-told, kept-as}
-use Rattle.line_turns.proofs.Found.{found-ordinary, turn-nothing, turn-spent, turn-end, turn-rule, end-in-table}
+use Rattle.line_turns.proofs.Found.{found-search, turn-nothing, turn-spent, turn-end, turn-rule, end-in-table}
 use Rattle.line_turns.proofs.Runs.{GoesFurther, goes-further, runs-on, runs-end}
 use Rattle.line_turns.proofs.Takens.{open-running, open-content, open-begun, inside-all, told-match}
 use Rattle.line_turns.proofs.Calls.{kept-none, kept-both, ready-kept}
@@ -196,9 +196,9 @@ turn-end_found-requires t c = (
   omega (arith, c.decreases),
   (
     ready-kept _ _ _ _ _ _ c.requires.ready (record {
-      searcher = c.in_ok-ordinary.ensures.same;
-      budget = c.in_ok-ordinary.ensures.budget;
-      room = c.in_ok-ordinary.ensures.room;
+      searcher = c.in_ok-search.ensures.same;
+      budget = c.in_ok-search.ensures.budget;
+      room = c.in_ok-search.ensures.room;
     }),
     (
       c.requires.running,
@@ -206,14 +206,14 @@ turn-end_found-requires t c = (
         c.requires.few,
         (
           subst (λ s. let state : State = s in
-              IsPartFrom state.place (length c.args.over.now.text.now) c.ordinary.new.work.hit c.in-At.m)
+              IsPartFrom state.place (length c.args.over.now.text.now) c.search.new.work.hit c.in-At.m)
               c.state.view_is
               (subst (λ f. IfAt f (IsPartFrom c.state.inside.place (length c.args.over.now.text.now)
-              c.ordinary.new.work.hit)) c.in-At.is c.in_ok-ordinary.ensures.part),
-          end-in-table c.args.over.now c.args.levels c.args.state.now c.in-At.m c.ordinary.new.work.hit
-              (ap (λ f. found_of f c.ordinary.new.work.hit) (sym c.in-At.is)
-              ∙ found-ordinary c.args.over.now c.args.searcher.now c.args.state.now _ _ _ c.top.result.now _
-              c.in_ok-ordinary.ensures.found c.requires.ready.same c.state.view_is c.flags-flags.ensures
+              c.search.new.work.hit)) c.in-At.is c.in_ok-search.ensures.part),
+          end-in-table c.args.over.now c.args.levels c.args.state.now c.in-At.m c.search.new.work.hit
+              (ap (λ f. found_of f c.search.new.work.hit) (sym c.in-At.is)
+              ∙ found-search c.args.over.now c.args.searcher.now c.args.state.now _ _ _ c.top.result.now _
+              c.in_ok-search.ensures.found c.requires.ready.same c.state.view_is c.flags-flags.ensures
               c.requires.ready.budget c.top.ensures)
               c.in-End.is c.requires.running.inside,
         ),
@@ -226,9 +226,9 @@ pub turn-returns-in-Nothing-clause-turned : goal.turn-returns-in-Nothing-clause-
 turn-returns-in-Nothing-clause-turned t c =
     IfOk-weaker c.rest_of.result _ _
     (λ then e. e ∙ turn-nothing c.args.over.now c.args.levels c.args.state.now
-    (ap (λ f. found_of f c.ordinary.new.work.hit) (sym c.in-Nothing.is)
-    ∙ found-ordinary c.args.over.now c.args.searcher.now c.args.state.now _ _ _ c.top.result.now _
-    c.in_ok-ordinary.ensures.found c.requires.ready.same c.state.view_is c.flags-flags.ensures c.requires.ready.budget
+    (ap (λ f. found_of f c.search.new.work.hit) (sym c.in-Nothing.is)
+    ∙ found-search c.args.over.now c.args.searcher.now c.args.state.now _ _ _ c.top.result.now _
+    c.in_ok-search.ensures.found c.requires.ready.same c.state.view_is c.flags-flags.ensures c.requires.ready.budget
     c.top.ensures))
     c.rest_of.ensures
 
@@ -246,19 +246,19 @@ turn-returns-in-Spent-clause-turned t c =
     ∙ ap (λ s. let state : State = s in rest c.args.over.now.text.now (record state { out = spent state.out }))
     c.state.view_is
     ∙ turn-spent c.args.over.now c.args.levels c.args.state.now
-    (ap (λ f. found_of f c.ordinary.new.work.hit) (sym c.in-Spent.is)
-    ∙ found-ordinary c.args.over.now c.args.searcher.now c.args.state.now _ _ _ c.top.result.now _
-    c.in_ok-ordinary.ensures.found c.requires.ready.same c.state.view_is c.flags-flags.ensures c.requires.ready.budget
+    (ap (λ f. found_of f c.search.new.work.hit) (sym c.in-Spent.is)
+    ∙ found-search c.args.over.now c.args.searcher.now c.args.state.now _ _ _ c.top.result.now _
+    c.in_ok-search.ensures.found c.requires.ready.same c.state.view_is c.flags-flags.ensures c.requires.ready.budget
     c.top.ensures))
     c.rest_of-in-Spent.ensures
 
 pub turn-returns-in-End-clause-turned : goal.turn-returns-in-End-clause-turned
 turn-returns-in-End-clause-turned t c =
     IfOk-weaker c.end_found.result _ _
-    (λ then e. e ∙ turn-end c.args.over.now c.args.levels c.args.state.now c.in-At.m c.ordinary.new.work.hit
-    (ap (λ f. found_of f c.ordinary.new.work.hit) (sym c.in-At.is)
-    ∙ found-ordinary c.args.over.now c.args.searcher.now c.args.state.now _ _ _ c.top.result.now _
-    c.in_ok-ordinary.ensures.found c.requires.ready.same c.state.view_is c.flags-flags.ensures c.requires.ready.budget
+    (λ then e. e ∙ turn-end c.args.over.now c.args.levels c.args.state.now c.in-At.m c.search.new.work.hit
+    (ap (λ f. found_of f c.search.new.work.hit) (sym c.in-At.is)
+    ∙ found-search c.args.over.now c.args.searcher.now c.args.state.now _ _ _ c.top.result.now _
+    c.in_ok-search.ensures.found c.requires.ready.same c.state.view_is c.flags-flags.ensures c.requires.ready.budget
     c.top.ensures)
     c.in-End.is)
     c.end_found.ensures.turned
@@ -266,11 +266,11 @@ turn-returns-in-End-clause-turned t c =
 pub turn-returns-in-Rule-clause-turned : goal.turn-returns-in-Rule-clause-turned
 turn-returns-in-Rule-clause-turned t c =
     IfOk-weaker c.rule_found.result _ _
-    (λ then e. e ∙ turn-rule c.args.over.now c.args.levels c.args.state.now c.in-At.m c.ordinary.new.work.hit
+    (λ then e. e ∙ turn-rule c.args.over.now c.args.levels c.args.state.now c.in-At.m c.search.new.work.hit
     c.in-Rule.id
-    (ap (λ f. found_of f c.ordinary.new.work.hit) (sym c.in-At.is)
-    ∙ found-ordinary c.args.over.now c.args.searcher.now c.args.state.now _ _ _ c.top.result.now _
-    c.in_ok-ordinary.ensures.found c.requires.ready.same c.state.view_is c.flags-flags.ensures c.requires.ready.budget
+    (ap (λ f. found_of f c.search.new.work.hit) (sym c.in-At.is)
+    ∙ found-search c.args.over.now c.args.searcher.now c.args.state.now _ _ _ c.top.result.now _
+    c.in_ok-search.ensures.found c.requires.ready.same c.state.view_is c.flags-flags.ensures c.requires.ready.budget
     c.top.ensures)
     c.in-Rule.is)
     c.rule_found.ensures.turned

@@ -1,12 +1,14 @@
 use Rattle.std.proofs.Common.{◌≡◌, ap, ◌∙◌, subst, arith, length}
 use Rattle.bracket_marks.specs.MarkedLine.{MarkedLine, marks_in, text_end}
-use Rattle.std.proofs.Common.{List}
+use Rattle.std.proofs.Common.{List, ◌<◌, ◌^◌, true}
+use Rattle.std.proofs.lemmas.Bool.Decides.{nat_tests}
+use Rattle.tree_defs.specs.Ends.{fits}
 use Rattle.text_pos.specs.declared.length.Length.{Length}
 use Rattle.text_pos.specs.declared.length.Pos.{Pos}
 use Rattle.text_pos.specs.Lengths.{IsLess}
 use Rattle.tree_defs.specs.Rows.{place}
 use Rattle.tree_defs.proofs.Lengths.{same_length}
-use Rattle.reuse_parser.specs.Parsing.{last_place}
+use Rattle.reuse_parser.specs.Parsing.{last_place, given_after}
 use Rattle.reuse_parser.proofs.Sources.{all_marks, marks_follow, last_within, not_before, stands_for, sound_is_even}
 use Rattle.reuse_parser.proofs.whole.parse.Goals as goal
 
@@ -15,6 +17,9 @@ ends : (last : Length) (p : Pos) (lines : List MarkedLine) → last.lines ≡ p.
     → place last ≡ text_end lines
 ends last p lines line col is = ap (λ n. record { line = n; col = last.cols }) line
     ∙ ap (λ n. record { line = p.line; col = n }) col ∙ is
+
+fits_by : (a : Length) → a.lines < 2 ^ 32 → a.cols < 2 ^ 32 → fits a ≡ true
+fits_by a h k = grind (arith, nat_tests)
 
 pub returns-in_err-all-clause-few : goal.returns-in_err-all-clause-few
 returns-in_err-all-clause-few g c =
@@ -67,6 +72,8 @@ returns-clause-stands g c =
     c.empty.ensures
     (ends c.length_to.result c.end-end.result s.lines c.length_to.ensures.lines c.length_to.ensures.cols
     (rw c.in_ok-all.ensures.lines at c.end-end.ensures))
+    c.in_ok-all.ensures.marked c.requires.lines (rw (c.in_ok-all.ensures.all ∙ all) at c.in_ok-all.ensures.fit)
+    (fits_by c.length_to.result (omega arith) (omega arith))
     (rw is at c.in_ok-parsed.ensures) (sound_is_even _ c.known-tree.ensures.sound))
 
 pub returns-clause-counted : goal.returns-clause-counted
@@ -80,3 +87,28 @@ returns-clause-few g c =
     let all = ap length (all_marks (g.S.MarkSource.told c.args.source.now) c.in_ok-all.ensures.marked
     c.requires.begin) in
     let few = c.in_ok-all.ensures.few in omega (arith, all, few)
+
+pub returns-in_err-all-clause-few_given : goal.returns-in_err-all-clause-few_given
+returns-in_err-all-clause-few_given g c =
+    let all = ap length (all_marks (g.S.MarkSource.told c.args.source.now) c.in_err-all.ensures.marked
+    c.requires.begin) in
+    let few = c.in_err-all.ensures.few_given in omega (arith, all, few)
+
+pub returns-in_err-parsed-clause-few_given : goal.returns-in_err-parsed-clause-few_given
+returns-in_err-parsed-clause-few_given g c =
+    let all = ap length (all_marks (g.S.MarkSource.told c.args.source.now) c.in_ok-all.ensures.marked
+    c.requires.begin) in
+    let few = c.in_ok-all.ensures.few_given in omega (arith, all, few)
+
+pub returns-clause-given : goal.returns-clause-given
+returns-clause-given g c =
+    let s = g.S.MarkSource.told c.args.source.now in
+    let all = ap length (c.in_ok-all.ensures.all ∙ all_marks s c.in_ok-all.ensures.marked c.requires.begin) in
+    ap (λ u. u.given) c.seek.ensures ∙ c.in_ok-all.ensures.given ∙ ap (λ n. given_after n s.given) all
+
+pub returns-clause-few_given : goal.returns-clause-few_given
+returns-clause-few_given g c =
+    let all = ap length (all_marks (g.S.MarkSource.told c.args.source.now) c.in_ok-all.ensures.marked
+    c.requires.begin) in
+    let few = c.in_ok-all.ensures.few_given in
+    let same = ap (λ u. u.given) c.seek.ensures in omega (arith, all, few, same)

@@ -15,6 +15,7 @@ line-requires-clause-fit g c =
       table = table_in c.self.inside.grammar;
       limits = c.self.inside.limits;
       start = c.self.inside.start;
+      unread = c.self.inside.unread;
       runs = c.self.inside.runs;
     } in
     fit-told (line_machine_of here.table here.limits) c.args.start.now

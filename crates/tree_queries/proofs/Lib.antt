@@ -1,0 +1,12 @@
+pub mod Answered
+pub mod AtPlaces
+pub mod Children
+pub mod Lists
+pub mod Order
+pub mod Opened
+pub mod Outcomes
+pub mod NodePlaces
+pub mod PairRows
+pub mod GuideRows
+pub mod Spans
+pub mod Tied
