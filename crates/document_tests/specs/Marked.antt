@@ -1,6 +1,6 @@
 -- The object that knows lines that begin with `#`: such a line is a comment, and opens one for the lines behind it, or
 -- closes the one that is open.
-use Rattle.std.specs.Prelude.{ℕ, ◌==◌, List, [], ◌∷◌, length, codes, Bool, true, false, not, ◌||◌, if◌then◌else◌, None}
+use Rattle.std.specs.Prelude.{ℕ, ◌==◌, List, [], ◌∷◌, length, codes, Bool, true, false, not, ◌||◌, None}
 use Rattle.text_pos.specs.declared.limits.Limits.{Limits}
 use Rattle.scope_defs.specs.Scopes.{Scopes, push}
 use Rattle.scope_defs.specs.Frames.{Frame, Start}

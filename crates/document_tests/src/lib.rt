@@ -8,4 +8,6 @@ pub use marked::Marked;
 #[cfg(test)]
 mod shown;
 #[cfg(test)]
+mod steps;
+#[cfg(test)]
 mod tests;

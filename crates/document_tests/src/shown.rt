@@ -1,65 +1,81 @@
-use answer_defs::{Answer, Question};
+use answer_defs::{Answer, BracketRow, Question, Twin, TypedToken};
 use document::{AskRefusal, Document};
 use line_runs::LineRuns;
 use line_text::{Edit, EditRefusal};
 use std::alloc::{AllocError, Global};
 use text_pos::{Pos, Span};
 
-/// An answer as a text: brackets with their levels, tokens with the numbers of their types and their scopes.
-fn answer_text(alloc: Global, answer: &Answer) -> Result<String, AllocError> {
+/// Brackets with their levels.
+fn rows_text(alloc: Global, rows: &[BracketRow]) -> Result<String, AllocError> {
     let mut out = String::new(alloc);
-    match answer {
-        Answer::Brackets(rows) => {
-            for row in rows.as_slice() {
-                let at = row.at;
-                out.push_str(
-                    format!(in alloc; "{}:{}-{} {};", at.line, at.from, at.to, row.level)?.as_str(),
-                )?;
-            }
-        }
-        Answer::Tokens(tokens) => {
-            for token in tokens.as_slice() {
-                out.push_str(
-                    format!(in alloc; "{}-{} {}", token.from, token.to, token.kind)?.as_str(),
-                )?;
-                for n in 0..token.scopes.len() {
-                    out.push(' ')?;
-                    out.push_str(token.scopes.name(n))?;
-                }
-                out.push(';')?;
-            }
-        }
-        Answer::Line(chars) => {
-            for c in chars.as_slice() {
-                out.push(*c)?;
-            }
-        }
-        Answer::Level(level) => out.push_str(format!(in alloc; "level {}", level)?.as_str())?,
-        Answer::Pairs(pairs) => {
-            out.push_str(format!(in alloc; "{} pairs", pairs.as_slice().len())?.as_str())?;
-        }
-        Answer::Guides(guides) => {
-            out.push_str(format!(in alloc; "{} guides", guides.as_slice().len())?.as_str())?;
-        }
-        Answer::Match(twin) | Answer::Around(twin) => match twin {
-            None => out.push_str("null")?,
-            Some(twin) => {
-                let (first, second) = (twin.first.from, twin.second.from);
-                out.push_str(
-                    format!(in alloc;
-                        "{}:{} {}:{}",
-                        first.line, first.col, second.line, second.col
-                    )?
-                    .as_str(),
-                )?;
-            }
-        },
-        Answer::Jump(at) => match at {
-            None => out.push_str("null")?,
-            Some(at) => out.push_str(format!(in alloc; "{}:{}", at.line, at.col)?.as_str())?,
-        },
+    for row in rows {
+        let at = row.at;
+        let text = format!(in alloc; "{}:{}-{} {};", at.line, at.from, at.to, row.level)?;
+        out.push_str(text.as_str())?;
     }
     Ok(out)
+}
+
+/// A token with the number of its type and its scopes.
+fn push_token(alloc: Global, out: &mut String, token: &TypedToken) -> Result<(), AllocError> {
+    let text = format!(in alloc; "{}-{} {}", token.from, token.to, token.kind)?;
+    out.push_str(text.as_str())?;
+    for n in 0..token.scopes.len() {
+        out.push(' ')?;
+        out.push_str(token.scopes.name(n))?;
+    }
+    out.push(';')?;
+    Ok(())
+}
+
+fn tokens_text(alloc: Global, tokens: &[TypedToken]) -> Result<String, AllocError> {
+    let mut out = String::new(alloc);
+    for token in tokens {
+        push_token(alloc, &mut out, token)?;
+    }
+    Ok(out)
+}
+
+fn chars_text(alloc: Global, chars: &[char]) -> Result<String, AllocError> {
+    let mut out = String::new(alloc);
+    for c in chars {
+        out.push(*c)?;
+    }
+    Ok(out)
+}
+
+/// Where two partners begin.
+fn twin_text(alloc: Global, twin: Option<Twin>) -> Result<String, AllocError> {
+    match twin {
+        None => String::from_str(alloc, "null"),
+        Some(twin) => {
+            let (first, second) = (twin.first.from, twin.second.from);
+            format!(in alloc;
+                "{}:{} {}:{}",
+                first.line, first.col, second.line, second.col
+            )
+        }
+    }
+}
+
+fn place_text(alloc: Global, at: Option<Pos>) -> Result<String, AllocError> {
+    match at {
+        None => String::from_str(alloc, "null"),
+        Some(at) => format!(in alloc; "{}:{}", at.line, at.col),
+    }
+}
+
+fn answer_text(alloc: Global, answer: &Answer) -> Result<String, AllocError> {
+    match answer {
+        Answer::Brackets(rows) => rows_text(alloc, rows.as_slice()),
+        Answer::Tokens(tokens) => tokens_text(alloc, tokens.as_slice()),
+        Answer::Line(chars) => chars_text(alloc, chars.as_slice()),
+        Answer::Level(level) => format!(in alloc; "level {}", *level),
+        Answer::Pairs(pairs) => format!(in alloc; "{} pairs", pairs.as_slice().len()),
+        Answer::Guides(guides) => format!(in alloc; "{} guides", guides.as_slice().len()),
+        Answer::Match(twin) | Answer::Around(twin) => twin_text(alloc, *twin),
+        Answer::Jump(at) => place_text(alloc, *at),
+    }
 }
 
 /// The answer to a question, or its refusal, as a text.
@@ -74,15 +90,6 @@ pub(crate) fn asked<R: LineRuns + Drop>(
         Err(AskRefusal::Place { length }) => format!(in alloc; "place {}", length),
         Err(AskRefusal::Memory(_)) => Err(AllocError),
     }
-}
-
-/// The rows of the first lines, as a text.
-pub(crate) fn rows<R: LineRuns + Drop>(
-    alloc: Global,
-    document: &mut Document<R>,
-    to: u32,
-) -> Result<String, AllocError> {
-    asked(alloc, document, Question::Brackets { from: 0, to })
 }
 
 /// Puts a text in at a place. Whether that was accepted.
