@@ -22,6 +22,8 @@ use Rattle.tree_defs.specs.Shape.{length_of, IsEven}
 use Rattle.tree_defs.specs.Items.{items_of, Stands}
 use Rattle.tree_defs.specs.Rows.{start, place, tree_rows, AreFull}
 use Rattle.tree_defs.proofs.FullRows.{row_law}
+use Rattle.tree_defs.proofs.CutTexts.{cut_law}
+use Rattle.tree_defs.specs.Cuts.{AreSome}
 use Rattle.pairing_defs.specs.Pairing.{paired}
 use Rattle.tree_defs.proofs.Lengths.{same_length, none_plus}
 use Rattle.reuse_parser.specs.Parsing.{Follow, Listed, last_place, role_has, AllFit, HoldsAt}
@@ -111,6 +113,14 @@ marks_follow (line ∷ lines) last are some is =
     (same_length (record { lines = 0 + length lines; cols = last_length (line ∷ lines) }) last
     (let h = ap (λ p. p.line) is in omega (arith, h)) (sym (ap (λ p. p.col) is)))
     (lines_follow 0 line lines start are (not_itself 0 0))
+
+-- marks that follow each other take some columns each
+some_of : (p last : Length) (ms : List Mark) → Follow p last ms → AreSome ms
+some_of p last [] follow = tt
+some_of p last (m ∷ ms) follow = (
+  follow.1,
+  some_of (record { lines = m.at.line; cols = m.to }) last ms follow.3,
+)
 
 -- the last mark ends at or before the text's end
 pub last_within : (p : Pos) (last : Length) (ms : List Mark) → Follow (record { lines = p.line; cols = p.col }) last ms
@@ -211,6 +221,8 @@ stands_for above limit last t to [] lines none is marked some fit last_fits l ev
       fit = l.ends fits (all_hold last (marks_in lines) fit last_fits);
       rows = subst (λ e. AreFull (paired limit e (marks_in lines)) (tree_rows (items_of t) start 0 [])) ends
           (row_law limit t (marks_in lines) stands);
+      cuts = cut_law limit t (marks_in lines) stands
+          (some_of start last (marks_in lines) (marks_follow lines last marked some is));
     }
 
 pub sound_is_even : (root : Option Tree) → SoundInside root → IsEven (or_nothing root)

@@ -466,13 +466,13 @@ all_some limit level its at ms s stands is clear some m there =
 pub cut_law : CutLaw
 cut_law limit t ms stands some =
     let its = items_of t in
-    let same = cuttings limit its 0 start ms nothing_open stands refl tt in (
-      λ m is. all_held limit 0 its start ms stands m (subst (λ l. IsIn m l) same is),
-      λ p there. (
+    let same = cuttings limit its 0 start ms nothing_open stands refl tt in record {
+      held = λ m is. all_held limit 0 its start ms stands m (subst (λ l. IsIn m l) same is);
+      cut = λ p there. (
         λ cut. subst (λ l. Holds p l) (sym same) (cut_holds limit 0 its start ms stands p there cut),
         λ h.
             let is : IsIn h.mark (cuts_of limit 0 its start ms stands) = subst (λ l. IsIn h.mark l) same h.there in
             holder_cut limit 0 its start ms stands h.mark
             (all_some limit 0 its start ms nothing_open stands refl tt some h.mark is) is p there h.lies,
-      ),
-    )
+      );
+    }

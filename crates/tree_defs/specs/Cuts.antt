@@ -67,9 +67,12 @@ pub record Holds (p : Piece) (ms : List Mark) : Type 0 where
   pub there : IsIn mark ms
   pub lies : LiesIn mark p
 
--- Of a tree that stands for marks: each opener that is met at the limit lies whole in a text, and a text is cut exactly
--- where one lies in it.
+-- Each opener that is met at the limit lies whole in a text of the tree, and a text is cut exactly where one lies in it.
+pub record CutsLie (limit : ℕ) (t : Tree) (ms : List Mark) : Type 0 where
+  pub held : (m : Mark) → IsIn m (cut_openers limit ms) → IsHeld m (texts_of t)
+  pub cut : (p : Piece) → IsIn p (texts_of t) → (p.cut ≡ true) ↔ Holds p (cut_openers limit ms)
+
+-- So it is of a tree that stands for marks.
 abbrev pub CutLaw : Type 0
 CutLaw = (limit : ℕ) (t : Tree) (ms : List Mark) → Stands limit 0 (items_of t) start ms → AreSome ms
-    → ((m : Mark) → IsIn m (cut_openers limit ms) → IsHeld m (texts_of t))
-    × ((p : Piece) → IsIn p (texts_of t) → (p.cut ≡ true) ↔ Holds p (cut_openers limit ms))
+    → CutsLie limit t ms
