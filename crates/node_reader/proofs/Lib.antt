@@ -1,0 +1,5 @@
+pub mod Nested
+pub mod Orders
+pub mod Starting
+pub mod Children
+pub mod Ways
