@@ -1,11 +1,10 @@
 -- Lengths in order, and what is left of them behind their fronts.
-use Rattle.std.proofs.Common.{◌≡◌, ◌<◌, true, false, refl, sym, ap, ◌∙◌, subst, arith}
+use Rattle.std.proofs.Common.{◌≡◌, true, false, arith}
 use Rattle.std.proofs.lemmas.Bool.Decides.{nat_tests}
 use Rattle.text_pos.specs.declared.length.Length.{Length}
-use Rattle.text_pos.specs.Lengths.{plus, IsLess}
-use Rattle.tree_defs.proofs.Lengths.{same_length, plus_assoc}
-use Rattle.change_defs.specs.declared.Joint.{Joint}
-use Rattle.change_defs.specs.Changes.{is_less, rest_of, carried}
+use Rattle.text_pos.specs.Lengths.{plus}
+use Rattle.tree_defs.proofs.Lengths.{same_length}
+use Rattle.change_defs.specs.Changes.{is_less, rest_of}
 
 pub less_not_back : (a b : Length) → is_less a b ≡ true → is_less b a ≡ false
 less_not_back a b h = grind (arith, nat_tests)

@@ -1,15 +1,14 @@
 -- Changes in order follow one another in both texts.
-use Rattle.std.proofs.Common.{◌≡◌, ◌&&◌, Bool, true, false, List, [], ◌∷◌, ◌++◌, map, refl, sym, ap, ◌∙◌, subst, arith}
+use Rattle.std.proofs.Common.{◌≡◌, ◌&&◌, Bool, true, false, List, [], ◌∷◌, ◌++◌, map, refl, sym, ap, subst, arith}
 use Rattle.std.proofs.lemmas.Bool.Decides.{nat_tests}
 use Rattle.text_pos.specs.declared.length.Length.{Length}
 use Rattle.text_pos.specs.Lengths.{plus}
 use Rattle.change_defs.specs.declared.Change.{Change}
 use Rattle.change_defs.specs.declared.Joint.{Joint}
-use Rattle.change_defs.specs.declared.Placed.{Placed}
-use Rattle.change_defs.specs.Changes.{is_less, rest_of, first_joint, carried, start_joint, end_joint, placed_at, placed_from}
+use Rattle.change_defs.specs.Changes.{is_less, first_joint, carried, end_joint, placed_at, placed_from}
 use Rattle.change_defs.specs.Changes.{placed, last_joint, starts_behind, rise_behind, are_in_order}
-use Rattle.change_laws.specs.Rising.{Side, in_old, in_new, RiseBehind, Rise, AreEven}
-use Rattle.change_laws.proofs.Order.{less_not_back, plus_not_less, not_less_itself}
+use Rattle.change_laws.specs.Rising.{in_old, in_new, RiseBehind, Rise, AreEven}
+use Rattle.change_laws.proofs.Order.{less_not_back, plus_not_less}
 
 pub both_true : (a b : Bool) → (a && b) ≡ true → (a ≡ true) × (b ≡ true)
 both_true true true h = (refl, refl)
@@ -29,30 +28,30 @@ pub rise_in_new : (joint : Joint) (before : Change) (cs : List Change) → plus 
 rise_in_new joint before [] e h = tt
 rise_in_new joint before (c ∷ cs) e h =
     let both = both_true (is_less (plus before.start before.old) c.start) (rise_behind c cs) h in (
-  carried_behind joint c.start (starts_after joint before c e both.0),
-  plus_not_less (carried joint c.start) c.new,
-  rise_in_new (end_joint joint c) c cs refl both.1,
-)
+      carried_behind joint c.start (starts_after joint before c e both.0),
+      plus_not_less (carried joint c.start) c.new,
+      rise_in_new (end_joint joint c) c cs refl both.1,
+    )
 
 pub rise_in_old : (joint : Joint) (before : Change) (cs : List Change) → plus before.start before.old ≡ joint.old
     → rise_behind before cs ≡ true → RiseBehind in_old joint.old (placed_from joint cs)
 rise_in_old joint before [] e h = tt
 rise_in_old joint before (c ∷ cs) e h =
     let both = both_true (is_less (plus before.start before.old) c.start) (rise_behind c cs) h in (
-  starts_after joint before c e both.0,
-  plus_not_less c.start c.old,
-  rise_in_old (end_joint joint c) c cs refl both.1,
-)
+      starts_after joint before c e both.0,
+      plus_not_less c.start c.old,
+      rise_in_old (end_joint joint c) c cs refl both.1,
+    )
 
 pub even_behind : (joint : Joint) (before : Change) (cs : List Change) → plus before.start before.old ≡ joint.old
     → rise_behind before cs ≡ true → AreEven joint (placed_from joint cs)
 even_behind joint before [] e h = tt
 even_behind joint before (c ∷ cs) e h =
     let both = both_true (is_less (plus before.start before.old) c.start) (rise_behind c cs) h in (
-  less_not_back joint.old c.start (starts_after joint before c e both.0),
-  refl,
-  even_behind (end_joint joint c) c cs refl both.1,
-)
+      less_not_back joint.old c.start (starts_after joint before c e both.0),
+      refl,
+      even_behind (end_joint joint c) c cs refl both.1,
+    )
 
 pub new_rise : (cs : List Change) → are_in_order cs ≡ true → Rise in_new (placed cs)
 new_rise [] h = tt

@@ -1,5 +1,5 @@
 -- Changes that follow one another in a text, with what isn't changed between them.
-use Rattle.std.specs.Prelude.{◌≡◌, Bool, true, false, List, [], ◌∷◌}
+use Rattle.std.specs.Prelude.{◌≡◌, true, false, List, [], ◌∷◌}
 use Rattle.text_pos.specs.declared.length.Length.{Length}
 use Rattle.change_defs.specs.declared.Joint.{Joint}
 use Rattle.change_defs.specs.declared.Placed.{Placed}

@@ -1,16 +1,15 @@
 -- Where changes that rise are parted by a place of the new text.
-use Rattle.std.proofs.Common.{◌≡◌, ℕ, zero, suc, ◌+◌, ◌-◌, ◌<◌, ◌≤◌, Bool, true, false, not, List, [], ◌∷◌, length, map}
+use Rattle.std.proofs.Common.{◌≡◌, ℕ, zero, suc, ◌-◌, ◌<◌, ◌≤◌, Bool, true, false, not, List, [], ◌∷◌, length, map}
 use Rattle.std.proofs.Common.{◌&&◌, ◌||◌, if◌then◌else◌}
-use Rattle.std.proofs.Common.{take, slice_get, slice_index_or, Option, Some, None, refl, sym, ap, ◌∙◌, subst, arith}
-use Rattle.std.proofs.lemmas.Bool.Decides.{nat_tests}
-use Rattle.std.specs.List.{list_any, find}
+use Rattle.std.proofs.Common.{take, slice_get, slice_index_or, refl, sym, ap, ◌∙◌, subst, arith}
+use Rattle.std.specs.List.{find}
 use Rattle.std.specs.List.Sorted.{IsPartitionedBy, IsPartitionPoint}
 use Rattle.text_pos.specs.declared.length.Length.{Length}
 use Rattle.change_defs.specs.declared.Joint.{Joint}
 use Rattle.change_defs.specs.declared.Placed.{Placed}
 use Rattle.change_defs.specs.Changes.{is_less, end_before, is_inside, turned, turned_joint}
 use Rattle.change_laws.specs.Rising.{in_new, RiseBehind, Rise}
-use Rattle.change_laws.proofs.Order.{less_then_less, less_then_up, up_then_less, less_not_back}
+use Rattle.change_laws.proofs.Order.{less_then_less, less_then_up, less_not_back}
 use Rattle.edit_mapper.specs.Places.{last_end, starts_before}
 
 -- the change doesn't end behind the place

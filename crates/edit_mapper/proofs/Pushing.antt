@@ -1,5 +1,5 @@
 -- One change more, behind others.
-use Rattle.std.proofs.Common.{◌≡◌, ℕ, ◌&&◌, true, false, List, [], ◌∷◌, ◌++◌, length, map, take, refl, sym, ap, ◌∙◌, subst, arith}
+use Rattle.std.proofs.Common.{◌≡◌, ℕ, ◌&&◌, true, false, List, [], ◌∷◌, ◌++◌, length, take, refl, sym, ap, ◌∙◌, subst}
 use Rattle.std.specs.List.{list_all}
 use Rattle.std.proofs.Math.Seq.{take-length}
 use Rattle.std.proofs.lemmas.List.{map-append}
@@ -11,8 +11,8 @@ use Rattle.change_defs.specs.declared.Change.{Change}
 use Rattle.change_defs.specs.declared.Joint.{Joint}
 use Rattle.change_defs.specs.declared.Placed.{Placed}
 use Rattle.change_defs.specs.Changes.{first_joint, carried, end_joint, placed_at, placed_from, placed, last_joint, is_less}
-use Rattle.change_defs.specs.Changes.{starts_behind, are_in_order, joint_fits, placed_fits, fits_behind, all_fit}
-use Rattle.change_laws.proofs.Placing.{both_true, placed_more, order_more, changes_of, last_not_behind}
+use Rattle.change_defs.specs.Changes.{starts_behind, are_in_order, joint_fits, placed_fits, fits_behind}
+use Rattle.change_laws.proofs.Placing.{both_true, placed_more, order_more, last_not_behind}
 use Rattle.edit_mapper.specs.Places.{changes_in, ArePlaces, last_end}
 
 last_end_placed : (joint : Joint) (cs : List Change) → last_end joint (placed_from joint cs) ≡ last_joint joint cs
@@ -57,19 +57,19 @@ places_more ps joint c are e order fit =
     let cs : List Change = changes_in ps in
     let more = changes_more ps joint c in
     let there : placed (cs ++ c ∷ []) ≡ ps ++ placed_at joint c ∷ [] =
-        placed_more first_joint cs c ∙ ap (λ qs. qs ++ placed_at (last_joint first_joint cs) c ∷ []) (sym are.same)
-        ∙ ap (λ j. ps ++ placed_at j c ∷ []) (sym e) in
+    placed_more first_joint cs c ∙ ap (λ qs. qs ++ placed_at (last_joint first_joint cs) c ∷ []) (sym are.same)
+    ∙ ap (λ j. ps ++ placed_at j c ∷ []) (sym e) in
     let one : placed_fits (placed_at joint c) ≡ true = subst (λ j. placed_fits (placed_at j c) ≡ true) (sym e) fit in
     let all : list_all placed_fits ps ≡ true = subst (λ qs. list_all placed_fits qs ≡ true) (sym are.same) are.fit in
     let all_more : list_all placed_fits (ps ++ placed_at joint c ∷ []) ≡ true =
-        list_all-append placed_fits ps (placed_at joint c ∷ []) ∙ ap (λ b. b && (placed_fits (placed_at joint c) && true)) all
-        ∙ ap (λ b. b && true) one in
+    list_all-append placed_fits ps (placed_at joint c ∷ []) ∙ ap (λ b. b && (placed_fits (placed_at joint c) && true)) all
+    ∙ ap (λ b. b && true) one in
     record {
-  same = sym (ap (λ ds. placed ds) more ∙ there);
-  order = subst (λ ds. are_in_order ds ≡ true) (sym more) (order_more cs c are.order order);
-  fit = subst (λ ds. list_all placed_fits (placed ds) ≡ true) (sym more)
-      (subst (λ qs. list_all placed_fits qs ≡ true) (sym there) all_more);
-}
+      same = sym (ap (λ ds. placed ds) more ∙ there);
+      order = subst (λ ds. are_in_order ds ≡ true) (sym more) (order_more cs c are.order order);
+      fit = subst (λ ds. list_all placed_fits (placed ds) ≡ true) (sym more)
+          (subst (λ qs. list_all placed_fits qs ≡ true) (sym there) all_more);
+    }
 
 pub joint_there : (ps qs : List Placed) (n v : ℕ) (cs : List Change) (joint : Joint) → ArePlaces ps → qs ≡ ps
     → length qs ≡ v → n ≡ v → changes_in ps ≡ cs → joint ≡ last_end first_joint (take n qs)
@@ -85,9 +85,9 @@ pub pushed : (ps more : List Placed) (cs : List Change) (joint : Joint) (c : Cha
     → ArePlaces more
 pushed ps more cs joint c from old_end new_end are of there order fit from_is old_is new_is is =
     let one : placed_at joint c ≡ record { change = c; from = record { old = c.start; new = from }; to = record { old = old_end; new = new_end } } =
-        sym (ap (λ l. record { change = c; from = record { old = c.start; new = from }; to = record { old = l; new = new_end } }) old_is
-        ∙ ap (λ l. record { change = c; from = record { old = c.start; new = from }; to = record { old = plus c.start c.old; new = l } }) new_is
-        ∙ ap (λ l. record { change = c; from = record { old = c.start; new = l }; to = record { old = plus c.start c.old; new = plus l c.new } }) from_is) in
+    sym (ap (λ l. record { change = c; from = record { old = c.start; new = from }; to = record { old = l; new = new_end } }) old_is
+    ∙ ap (λ l. record { change = c; from = record { old = c.start; new = from }; to = record { old = plus c.start c.old; new = l } }) new_is
+    ∙ ap (λ l. record { change = c; from = record { old = c.start; new = l }; to = record { old = plus c.start c.old; new = plus l c.new } }) from_is) in
     subst (λ l. ArePlaces l) (ap (λ p. ps ++ p ∷ []) one ∙ sym is)
     (places_more ps joint c are (there ∙ ap (λ l. last_joint first_joint l) (sym of))
     (subst (λ l. starts_behind l c ≡ true) (sym of) order) (subst (λ l. fits_behind l c ≡ true) (sym of) fit))

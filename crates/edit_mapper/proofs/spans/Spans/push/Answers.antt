@@ -1,5 +1,5 @@
 use Rattle.edit_mapper.proofs.Pushing.{joint_there, starts_not_before, fits_there, pushed}
-use Rattle.std.proofs.Common.{◌≡◌, true, sym, ap, ◌∙◌, subst}
+use Rattle.std.proofs.Common.{◌≡◌, true, sym, subst}
 use Rattle.text_pos.specs.Lengths.{plus}
 use Rattle.tree_defs.specs.Ends.{fits}
 use Rattle.edit_mapper.proofs.spans.Spans.push.Goals as goal
