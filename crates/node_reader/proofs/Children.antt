@@ -1,7 +1,6 @@
 -- A node and its parts.
 use Rattle.std.proofs.Common.{◌≡◌, ℕ, ◌+◌, ◌*◌, ◌<◌, ◌≤◌, ◌&&◌, if◌then◌else◌, max, List, [], ◌∷◌, ◌++◌, take, slice_get, Bool}
 use Rattle.std.proofs.Common.{zero, suc, ◌⊎◌, inl, inr, true, false, Option, Some, None, refl, sym, ap, ◌∙◌, subst, arith, append-nil}
-use Rattle.std.proofs.lemmas.Bool.{cases_Bool}
 use Rattle.std.proofs.lemmas.Bool.Decides.{nat_tests}
 use Rattle.text_pos.specs.declared.length.Length.{Length}
 use Rattle.text_pos.specs.Lengths.{plus}
@@ -11,8 +10,8 @@ use Rattle.tree_defs.proofs.Lengths.{plus_none, none_plus, plus_assoc}
 use Rattle.bracket_ast.specs.Weight.{weight}
 use Rattle.node_reader.specs.Starts.{is_same, is_some, here, starting_from, starting}
 use Rattle.node_reader.specs.Parts.{levels, parts_of, front, IsPart}
-use Rattle.node_reader.proofs.Orders.{is_less, plus_up, plus_less, less_plus, up_less, less_up, up_trans, some_behind}
-use Rattle.node_reader.proofs.Orders.{some_not_none, same_itself}
+use Rattle.node_reader.proofs.Orders.{is_less, plus_up, plus_less, less_up}
+use Rattle.node_reader.proofs.Orders.{some_not_none}
 use Rattle.node_reader.proofs.Starting.{none_before, none_behind, moved}
 
 -- trees one behind the other from a place on: their nodes that start at an offset

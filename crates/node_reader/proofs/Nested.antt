@@ -1,20 +1,18 @@
 -- Of the nodes that start at an offset each lies in the one before, and so is no longer.
-use Rattle.std.proofs.Common.{◌≡◌, ℕ, ◌&&◌, ◌⊎◌, if◌then◌else◌, List, [], ◌∷◌, ◌++◌, Bool, true, false, Option, Some, None}
-use Rattle.std.proofs.Common.{refl, sym, ap, ◌∙◌, subst, inl, inr, append-nil}
+use Rattle.std.proofs.Common.{◌≡◌, ℕ, ◌&&◌, if◌then◌else◌, List, [], ◌∷◌, ◌++◌, Bool, true, false, Option, Some, None}
+use Rattle.std.proofs.Common.{refl, sym, subst, inl, inr, append-nil}
 use Rattle.std.proofs.lemmas.Bool.{cases_Bool}
 use Rattle.text_pos.specs.declared.length.Length.{Length}
 use Rattle.text_pos.specs.Lengths.{plus}
 use Rattle.tree_defs.specs.Tree.{Tree, Nothing, Text, Bracket, Lone, Pair, Two, Three}
-use Rattle.tree_defs.specs.Shape.{no_length, length_of, and_closer, total}
+use Rattle.tree_defs.specs.Shape.{no_length, length_of, and_closer}
 use Rattle.tree_defs.specs.Cuts.{IsIn}
 use Rattle.node_reader.specs.Starts.{is_same, is_some, here, closer_here, starting_from, starting}
-use Rattle.node_reader.specs.Asks.{IsPassing, IsFirst, IsLongest}
-use Rattle.node_reader.specs.Parts.{parts_of}
+use Rattle.node_reader.specs.Asks.{IsPassing, IsFirst}
 use Rattle.node_reader.specs.Laws.{IsBest, LongestLaw}
 use Rattle.node_reader.specs.declared.ask.Ask.{Ask}
 use Rattle.node_reader.proofs.Orders.{is_less, not_itself, not_less, plus_up, plus_behind, up_trans, less_up}
 use Rattle.node_reader.proofs.Starting.{none_before, none_behind}
-use Rattle.node_reader.proofs.Children.{opened}
 
 -- no tree of some is longer than a length
 abbrev UpTo : Length → List Tree → Type 0

@@ -5,10 +5,10 @@ use Rattle.std.proofs.lemmas.Bool.{cases_Bool, true≢false}
 use Rattle.text_pos.specs.declared.length.Length.{Length}
 use Rattle.text_pos.specs.Lengths.{plus}
 use Rattle.tree_defs.specs.Tree.{Tree, Nothing, Text, Bracket, Lone, Pair, Two, Three}
-use Rattle.tree_defs.specs.Shape.{no_length, length_of, and_closer}
-use Rattle.tree_defs.proofs.Lengths.{plus_assoc, none_plus}
-use Rattle.node_reader.specs.Starts.{is_same, is_some, here, closer_here, starting_from, starting}
-use Rattle.node_reader.proofs.Orders.{is_less, not_itself, plus_up, less_plus, up_trans, less_up, up_less, less_same}
+use Rattle.tree_defs.specs.Shape.{length_of, and_closer}
+use Rattle.tree_defs.proofs.Lengths.{plus_assoc}
+use Rattle.node_reader.specs.Starts.{is_same, is_some, here, closer_here, starting_from}
+use Rattle.node_reader.proofs.Orders.{is_less, not_itself, plus_up, less_plus, up_trans, less_up, less_same}
 use Rattle.node_reader.proofs.Orders.{same_is, plus_same}
 
 none_of : (b : Bool) (t : Tree) → b ≡ false → (if b then t ∷ [] else []) ≡ []

@@ -3,7 +3,7 @@ use Rattle.std.specs.Prelude.{◌≡◌, Option, Some, None}
 use Rattle.text_pos.specs.declared.length.Length.{Length}
 use Rattle.tree_defs.specs.Tree.{Tree, Nothing}
 use Rattle.bracket_ast.specs.Shapes.{or_nothing}
-use Rattle.node_reader.specs.Ways.{IsPlace, root_of, offset_of}
+use Rattle.node_reader.specs.Paths.{IsPlace, root_of, offset_of}
 use Rattle.node_reader.specs.Reading.{Reading}
 use Rattle.node_reader.specs.declared.place.Place.{Place}
 use Rattle.node_reader.specs.declared.reader.Reader.TheInside.{Inside}

@@ -1,8 +1,8 @@
 -- What a reader is: a tree, and the offset that it has reached.
-use Rattle.std.specs.Prelude.{◌≡◌, Option, Some, None, refl}
+use Rattle.std.specs.Prelude.{refl}
 use Rattle.std.specs.Coded.{Coded, code_by, coded×, coded_ℕ}
 use Rattle.text_pos.specs.declared.length.Length.{Length}
-use Rattle.tree_defs.specs.Tree.{Tree, Nothing}
+use Rattle.tree_defs.specs.Tree.{Tree}
 use Rattle.tree_defs.specs.TreeCode.{tree_code}
 
 pub record Reading : Type 0 where

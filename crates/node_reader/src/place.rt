@@ -3,7 +3,7 @@ ghost use Rattle.std.specs.Prelude.{◌≡◌, ◌⊎◌, [], IfOk, IsTrue, ◌�
 ghost use Rattle.text_pos.specs.Lengths.{plus, IsLess};
 ghost use Rattle.tree_defs.specs.Shape.{length_of, no_length, Fits};
 ghost use Rattle.bracket_ast.specs.Shapes.{nows};
-ghost use Rattle.node_reader.specs.Ways.{IsPlace, IsSamePlace, StartsHere, root_of, offset_of};
+ghost use Rattle.node_reader.specs.Paths.{IsPlace, IsSamePlace, StartsHere, root_of, offset_of};
 
 use crate::parts::{START, behind, from_part, part_at};
 use bracket_ast::Node;

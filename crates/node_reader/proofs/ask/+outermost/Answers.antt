@@ -1,11 +1,9 @@
-use Rattle.std.proofs.Common.{◌≡◌, ◌∷◌, sym, ap, ◌∙◌, subst, inl, inr, refl}
+use Rattle.std.proofs.Common.{◌≡◌, ◌∷◌, sym, ap, ◌∙◌, inl, inr, refl}
 use Rattle.std.proofs.lemmas.Bool.{true≢false}
-use Rattle.bracket_ast.specs.Shapes.{nows}
 use Rattle.tree_defs.specs.Shape.{no_length}
-use Rattle.node_reader.specs.Asks.{IsFirst}
 use Rattle.node_reader.specs.Starts.{starting}
 use Rattle.node_reader.proofs.Orders.{less_is, some_is, none_of_both}
-use Rattle.node_reader.proofs.Children.{first_here, outer, alone}
+use Rattle.node_reader.proofs.Children.{first_here, outer}
 use Rattle.node_reader.proofs.ask.+outermost.Goals as goal
 
 pub returns-then-passes : goal.returns-then-passes

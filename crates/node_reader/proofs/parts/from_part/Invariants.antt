@@ -1,4 +1,4 @@
-use Rattle.std.proofs.Common.{◌≡◌, ◌≤◌}
+use Rattle.std.proofs.Common.{◌≡◌}
 use Rattle.text_pos.specs.Lengths.{plus}
 use Rattle.node_reader.specs.Parts.{front}
 use Rattle.node_reader.proofs.parts.from_part.Given as goal

@@ -1,4 +1,4 @@
-use Rattle.std.proofs.Common.{◌≡◌, ◌+◌, suc, sym, ap, ◌∙◌, subst, arith}
+use Rattle.std.proofs.Common.{◌≡◌, ◌+◌, suc, sym, ap, ◌∙◌, arith}
 use Rattle.bracket_ast.proofs.Sound.{low}
 use Rattle.text_pos.specs.Lengths.{plus}
 use Rattle.tree_defs.specs.Shape.{length_of}
@@ -24,11 +24,11 @@ loop-number-preserved c =
     let next : n + 1 ≡ suc n = omega arith in
     elim c.match-part.branch [
       | in-Some+else-less w ↦ let p = w.in-Some.part.now in
-        ap (λ l. plus l c.match-part.rest) (front_behind t (n + 1) n p next w.in-Some.ensures)
-        ∙ plus_assoc (front n t) (length_of p) c.match-part.rest
-        ∙ ap (λ l. plus (front n t) (plus (length_of p) l)) w.rest-is
-        ∙ ap (λ l. plus (front n t) (plus l w.minus-rest.result)) (sym w.length-length-in-Some.ensures.value)
-        ∙ ap (λ l. plus (front n t) l) w.minus-rest.ensures.sum ∙ c.loop-number.invariant
+          ap (λ l. plus l c.match-part.rest) (front_behind t (n + 1) n p next w.in-Some.ensures)
+          ∙ plus_assoc (front n t) (length_of p) c.match-part.rest
+          ∙ ap (λ l. plus (front n t) (plus (length_of p) l)) w.rest-is
+          ∙ ap (λ l. plus (front n t) (plus l w.minus-rest.result)) (sym w.length-length-in-Some.ensures.value)
+          ∙ ap (λ l. plus (front n t) l) w.minus-rest.ensures.sum ∙ c.loop-number.invariant
       | in_default w ↦ ap (λ l. plus l c.match-part.rest) (front_same t (n + 1) n next w.in_default.ensures)
-        ∙ ap (λ l. plus (front n t) l) w.rest-is ∙ c.loop-number.invariant
+          ∙ ap (λ l. plus (front n t) l) w.rest-is ∙ c.loop-number.invariant
     ]

@@ -1,8 +1,7 @@
-use Rattle.std.proofs.Common.{◌≡◌}
 use Rattle.text_pos.specs.Lengths.{IsLess}
 use Rattle.tree_defs.specs.Shape.{length_of, IsSome}
 use Rattle.bracket_ast.specs.Weight.{weight}
-use Rattle.node_reader.specs.Ways.{IsSamePlace}
+use Rattle.node_reader.specs.Paths.{IsSamePlace}
 use Rattle.node_reader.proofs.place.enter.Given as goal
 
 abbrev pub invariant-loop-part : goal.invariant-loop-part

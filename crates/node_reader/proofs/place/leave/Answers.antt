@@ -1,7 +1,7 @@
 use Rattle.std.proofs.Common.{◌≡◌, ap}
 use Rattle.bracket_ast.specs.Shapes.{or_nothing, nows}
-use Rattle.node_reader.specs.Ways.{node_of}
-use Rattle.node_reader.proofs.Ways.{up, up_fits}
+use Rattle.node_reader.specs.Paths.{node_of}
+use Rattle.node_reader.proofs.Paths.{up_fits}
 use Rattle.node_reader.proofs.place.leave.Goals as goal
 
 pub from_part-place-requires : goal.from_part-place-requires

@@ -1,5 +1,5 @@
 use Rattle.std.proofs.Common.{length}
-use Rattle.node_reader.specs.Ways.{IsSamePlace}
+use Rattle.node_reader.specs.Paths.{IsSamePlace}
 use Rattle.node_reader.proofs.place.leave.Given as goal
 
 abbrev pub invariant-loop-place : goal.invariant-loop-place

@@ -1,10 +1,8 @@
 use Rattle.std.proofs.Common.{◌≡◌, refl, false, sym, ap, ◌∙◌, subst, inl, inr}
 use Rattle.std.proofs.lemmas.Bool.{true≢false}
-use Rattle.text_pos.specs.Lengths.{plus, IsLess}
+use Rattle.text_pos.specs.Lengths.{plus}
 use Rattle.tree_defs.specs.Shape.{length_of}
-use Rattle.node_reader.specs.Asks.{IsFirst}
-use Rattle.node_reader.specs.Starts.{starting}
-use Rattle.node_reader.specs.Ways.{root_of, offset_of}
+use Rattle.node_reader.specs.Paths.{root_of, offset_of}
 use Rattle.node_reader.specs.Reaching.{IsFor, IsAt}
 use Rattle.bracket_ast.specs.Shapes.{or_nothing}
 use Rattle.node_reader.proofs.Orders.{is_less, not_less_is}

@@ -1,7 +1,7 @@
--- The way from a tree's root to a node of it.
-use Rattle.std.specs.Prelude.{◌≡◌, ◌⊎◌, ℕ, ◌<◌, ◌≤◌, List, [], ◌∷◌, reverse, slice_get, Option, Some, None}
+-- The path from a tree's root to a node of it.
+use Rattle.std.specs.Prelude.{◌≡◌, ◌<◌, ◌≤◌, List, [], ◌∷◌, reverse, slice_get, Option, Some, None}
 use Rattle.text_pos.specs.declared.length.Length.{Length}
-use Rattle.text_pos.specs.Lengths.{plus, IsLess}
+use Rattle.text_pos.specs.Lengths.{plus}
 use Rattle.tree_defs.specs.Tree.{Tree}
 use Rattle.tree_defs.specs.Shape.{no_length, length_of, Fits, IsSome}
 use Rattle.bracket_ast.specs.Shapes.{or_nothing, nows}
@@ -19,11 +19,11 @@ from_step s rest = plus (front s.part (node_of s)) rest
 
 -- Steps from a node back to the root, the last first: each leads to the node, or to that of the step before. An offset
 -- that lies so far into the node lies behind the start of each of them.
-abbrev pub IsWay : List Step → Tree → Length → Type 0
-IsWay [] t rest = Unit {0}
-IsWay (s ∷ ss) t rest =
+abbrev pub IsPath : List Step → Tree → Length → Type 0
+IsPath [] t rest = Unit {0}
+IsPath (s ∷ ss) t rest =
     (slice_get (parts_of (node_of s)) s.part ≡ Some t) × (levels t < levels (node_of s)) × IsSome rest
-    × IsWay ss (node_of s) (from_step s rest)
+    × IsPath ss (node_of s) (from_step s rest)
 
 -- the root from which the steps lead to a node
 abbrev pub root_by : List Step → Tree → Tree
@@ -46,7 +46,7 @@ abbrev pub offset_of : Place → Length
 offset_of p = offset_by (steps_back p) p.rest
 
 pub record IsPlace (p : Place) : Type 0 where
-  pub way : IsWay (steps_back p) p.node.now p.rest
+  pub path : IsPath (steps_back p) p.node.now p.rest
   pub fits : Fits (offset_of p)
   pub room : levels (root_of p) ≤ p.path.capacity
 
