@@ -1,11 +1,10 @@
 -- A key whose bits a list hasn't is that of none of its names.
-use Rattle.std.proofs.Common.{◌≡◌, ℕ, ◌*◌, ◌/◌, ◌%◌, ◌^◌, ◌<◌, Bool, true, false, ◌&&◌, List, [], ◌∷◌, fold, refl, subst}
+use Rattle.std.proofs.Common.{◌≡◌, ℕ, ◌*◌, ◌/◌, ◌%◌, ◌^◌, ◌<◌, true, false, [], ◌∷◌, fold, subst}
 use Rattle.std.proofs.Common.{arith, w64}
-use Rattle.std.specs.Prelude.{◌==◌, max}
 use Rattle.std.specs.Int.{bit_at}
 use Rattle.std.proofs.lemmas.Nat.Bits.{bit_at_or, bit_at_set_same, bit_at-lt}
-use Rattle.scope_defs.specs.Scopes.{Name, Scopes}
-use Rattle.scope_names.specs.Keys.{HasNoKey, key_of, keys_of, with_key, with_bit, has_bit, may_have, no_keys}
+use Rattle.scope_defs.specs.Scopes.{Scopes}
+use Rattle.scope_names.specs.Keys.{HasNoKey, key_of, keys_of, with_key, with_bit, may_have, no_keys}
 use Rattle.scope_names.specs.declared.keys.KeyBits.{KeyBits}
 
 -- the bits of a key are there

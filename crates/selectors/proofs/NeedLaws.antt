@@ -6,10 +6,10 @@ use Rattle.std.specs.List.{starts_with}
 use Rattle.std.proofs.lemmas.Bool.{and_parts, true≢false}
 use Rattle.std.proofs.lemmas.Bool.Decides.{Decides-eqb}
 use Rattle.std.proofs.lemmas.Slice.Eq.{starts_is}
-use Rattle.scope_defs.specs.Scopes.{Name, Scopes}
+use Rattle.scope_defs.specs.Scopes.{Name}
 use Rattle.scope_defs.specs.Selectors.{Entry, ends_part, name_matches, path_holds}
 use Rattle.scope_names.specs.Numbers.{mixed}
-use Rattle.scope_names.specs.Keys.{HasNoKey, key_from, key_of, has_dot}
+use Rattle.scope_names.specs.Keys.{key_from, key_of, has_dot}
 use Rattle.scope_names.specs.declared.numbers.TheConstants.{SEED}
 use Rattle.selectors.specs.declared.sign.KeptEntry.{KeptEntry}
 use Rattle.selectors.specs.declared.sign.Sign.{Sign}

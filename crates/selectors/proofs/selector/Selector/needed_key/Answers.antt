@@ -1,4 +1,3 @@
-use Rattle.std.proofs.Common.{Option, Some, None, IfSome, length, sym, ◌∙◌, ap, ◌≡◌, ℕ, false, true, List, Bool}
 use Rattle.scope_defs.specs.SelectorSyntax.{entry_at}
 use Rattle.selectors.proofs.NeedLaws.{needs_of_kept}
 use Rattle.selectors.proofs.selector.Selector.needed_key.Goals as goal
