@@ -1,5 +1,5 @@
 -- What the places of changes that follow one another are.
-use Rattle.std.proofs.Common.{◌≡◌, Bool, true, false, not, ◌&&◌, ◌||◌, if◌then◌else◌, List, [], ◌∷◌, map, Option, Some, None}
+use Rattle.std.proofs.Common.{◌≡◌, Bool, true, false, ◌&&◌, ◌||◌, if◌then◌else◌, List, [], ◌∷◌, map}
 use Rattle.std.proofs.Common.{◌⊎◌, inl, inr, refl, sym, ap, ◌∙◌, subst, arith}
 use Rattle.std.proofs.lemmas.Bool.Decides.{nat_tests}
 use Rattle.text_pos.specs.declared.length.Length.{Length}
@@ -11,9 +11,9 @@ use Rattle.change_defs.specs.declared.Placed.{Placed}
 use Rattle.change_defs.specs.Changes.{is_less, rest_of, first_joint, carried, end_joint, placed_from, placed, rise_behind}
 use Rattle.change_defs.specs.Changes.{are_in_order, end_before, is_inside, turned, turned_joint}
 use Rattle.change_laws.specs.Chains.{Follows, Chain}
-use Rattle.change_laws.proofs.Order.{less_not_back, less_then_less, less_then_up, up_then_less, up_then_up, plus_rest, rest_plus}
-use Rattle.change_laws.proofs.Order.{plus_not_less, plus_less, not_less_itself}
-use Rattle.change_laws.proofs.Placing.{both_true, carried_behind}
+use Rattle.change_laws.proofs.Order.{less_not_back, less_then_up, up_then_less, up_then_up, plus_rest, rest_plus}
+use Rattle.change_laws.proofs.Order.{plus_not_less, plus_less}
+use Rattle.change_laws.proofs.Placing.{both_true}
 
 -- ---- places behind a joint
 pub carried_not_before : (joint : Joint) (at : Length) → is_less (carried joint at) joint.new ≡ false
@@ -56,9 +56,9 @@ chain_behind : (joint : Joint) (before : Change) (cs : List Change) → plus bef
 chain_behind joint before [] e h = tt
 chain_behind joint before (c ∷ cs) e h =
     let both = both_true (is_less (plus before.start before.old) c.start) (rise_behind c cs) h in (
-  follows joint c (less_not_back joint.old c.start (subst (λ l. is_less l c.start ≡ true) e both.0)),
-  chain_behind (end_joint joint c) c cs refl both.1,
-)
+      follows joint c (less_not_back joint.old c.start (subst (λ l. is_less l c.start ≡ true) e both.0)),
+      chain_behind (end_joint joint c) c cs refl both.1,
+    )
 
 pub nothing_before : (at : Length) → is_less at first_joint.old ≡ false
 nothing_before at = grind (arith, nat_tests)
@@ -96,7 +96,7 @@ pub none_ends : (joint other : Joint) (ps : List Placed) (at : Length) → Chain
 none_ends joint other [] at c h = refl
 none_ends joint other (p ∷ ps) at c h =
     let early : is_less at p.to.old ≡ true = less_then_up at p.from.old p.to.old
-        (less_then_up at other.old p.from.old h c.0.old_start) c.0.old_end in
+    (less_then_up at other.old p.from.old h c.0.old_start) c.0.old_end in
     not_passed joint p ps at early ∙ none_ends joint p.to ps at c.1 early
 
 pub none_passed : (joint : Joint) (p : Placed) (ps : List Placed) (at : Length) → Chain joint (p ∷ ps)
@@ -171,15 +171,15 @@ rises joint (p ∷ ps) a b c h le out = elim (is_or (is_less b p.to.old)) [
   | inr late ↦ subst (λ (j : Joint). is_less (carried j b) (carried (end_before joint (p ∷ ps) a) a) ≡ false)
       (sym (passed joint p ps b late))
       (elim (is_or (is_less a p.to.old)) [
-      | inl early ↦ subst (λ (j : Joint). is_less (carried (end_before p.to ps b) b) (carried j a) ≡ false)
-          (sym (none_passed joint p ps a c early))
-          (up_then_up (carried joint a) p.from.new (carried (end_before p.to ps b) b)
-          (ap (λ l. is_less l (carried joint a)) c.0.even
-          ∙ carried_order joint p.from.old a c.0.old_start h ∙ first_outside p ps a out early)
-          (up_then_up p.from.new p.to.new (carried (end_before p.to ps b) b) c.0.new_end
-          (image_not_before p.to ps b c.1 late)))
-      | inr both ↦ subst (λ (j : Joint). is_less (carried (end_before p.to ps b) b) (carried j a) ≡ false)
-          (sym (passed joint p ps a both))
-          (rises p.to ps a b c.1 both le (others_outside p ps a out))
-    ])
+        | inl early ↦ subst (λ (j : Joint). is_less (carried (end_before p.to ps b) b) (carried j a) ≡ false)
+            (sym (none_passed joint p ps a c early))
+            (up_then_up (carried joint a) p.from.new (carried (end_before p.to ps b) b)
+            (ap (λ l. is_less l (carried joint a)) c.0.even
+            ∙ carried_order joint p.from.old a c.0.old_start h ∙ first_outside p ps a out early)
+            (up_then_up p.from.new p.to.new (carried (end_before p.to ps b) b) c.0.new_end
+            (image_not_before p.to ps b c.1 late)))
+        | inr both ↦ subst (λ (j : Joint). is_less (carried (end_before p.to ps b) b) (carried j a) ≡ false)
+            (sym (passed joint p ps a both))
+            (rises p.to ps a b c.1 both le (others_outside p ps a out))
+      ])
 ]

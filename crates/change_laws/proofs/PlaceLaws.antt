@@ -1,5 +1,5 @@
 -- Places and marks of whole texts.
-use Rattle.std.proofs.Common.{◌≡◌, ℕ, ◌+◌, ◌-◌, Bool, true, false, if◌then◌else◌, List, map, Option, Some, None}
+use Rattle.std.proofs.Common.{◌≡◌, ◌+◌, ◌-◌, Bool, true, false, if◌then◌else◌, List, Option, Some, None}
 use Rattle.std.proofs.Common.{refl, sym, ap, ◌∙◌, subst, arith}
 use Rattle.std.specs.List.{list_all}
 use Rattle.std.proofs.lemmas.Bool.Decides.{nat_tests}
@@ -10,11 +10,10 @@ use Rattle.tree_defs.proofs.Lengths.{same_length}
 use Rattle.pairing_defs.specs.declared.Mark.{Mark}
 use Rattle.change_defs.specs.declared.Change.{Change}
 use Rattle.change_defs.specs.declared.Joint.{Joint}
-use Rattle.change_defs.specs.declared.Placed.{Placed}
 use Rattle.change_defs.specs.Changes.{is_less, first_joint, carried, are_in_order, placed, back, is_inside, image, origin}
 use Rattle.change_defs.specs.Changes.{turned_joint, before, if_fits, distance}
-use Rattle.change_defs.specs.Agreement.{start_of, end_of, is_clear, moved}
-use Rattle.change_laws.specs.Chains.{Chain, has_room, is_within_room}
+use Rattle.change_defs.specs.Agreement.{start_of, end_of}
+use Rattle.change_laws.specs.Chains.{has_room, is_within_room}
 use Rattle.change_laws.specs.PlaceLaws.{ImagesRise, OriginsRise, RoomLaw, OldMarkLaw, NewMarkLaw}
 use Rattle.change_laws.proofs.Order.{less_then_up}
 use Rattle.change_laws.proofs.Chains.{nothing_before, chain_of, turned_chain, rises, carried_plus}
@@ -50,11 +49,11 @@ room_law cs at old len order h room =
     let e = end_behind first_joint (placed cs) at in
     let t = old_is_there cs at old len order h room in
     let o : carried e at ≡ old = (outside_and_origin cs at old h).1 in (
-  subst (λ l. is_inside (placed cs) (plus l len) ≡ false) o t.outside,
-  subst (λ l. image cs (plus l len) ≡ plus at len) o
-      (ap (λ (j : Joint). carried j (plus (carried e at) len)) t.same_end
-      ∙ carried_plus (turned_joint e) at len t.behind),
-)
+      subst (λ l. is_inside (placed cs) (plus l len) ≡ false) o t.outside,
+      subst (λ l. image cs (plus l len) ≡ plus at len) o
+          (ap (λ (j : Joint). carried j (plus (carried e at) len)) t.same_end
+          ∙ carried_plus (turned_joint e) at len t.behind),
+    )
 
 -- ---- marks
 pub less_in_room : (o : Option Length) (from to : Length) → is_less from to ≡ true → is_within_room o to ≡ true
@@ -78,14 +77,14 @@ pub old_mark_law : OldMarkLaw
 old_mark_law cs at old from to m order h less room s e =
     let o : carried (end_behind first_joint (placed cs) at) at ≡ old = (outside_and_origin cs at old h).1 in
     let there : image cs (start_of m) ≡ plus at from =
-        ap (λ l. image cs l) s ∙ (room_law cs at old from order h (less_in_room (distance cs at) from to less room)).1 in (
-  subst (λ l. list_all (λ p. apart l (end_of m) p) (placed cs) ≡ true) (sym s)
-      (subst (λ l. list_all (λ p. apart (plus old from) l p) (placed cs) ≡ true) (sym e)
-      (subst (λ l. list_all (λ p. apart (plus l from) (plus l to) p) (placed cs) ≡ true) o
-      (apart_there first_joint (placed cs) at from to (chain_of cs order) (nothing_before at) (outside_and_origin cs at old h).0 room))),
-  there,
-  moved_end old at from to m (image cs (start_of m)) less s e there,
-)
+    ap (λ l. image cs l) s ∙ (room_law cs at old from order h (less_in_room (distance cs at) from to less room)).1 in (
+      subst (λ l. list_all (λ p. apart l (end_of m) p) (placed cs) ≡ true) (sym s)
+          (subst (λ l. list_all (λ p. apart (plus old from) l p) (placed cs) ≡ true) (sym e)
+          (subst (λ l. list_all (λ p. apart (plus l from) (plus l to) p) (placed cs) ≡ true) o
+          (apart_there first_joint (placed cs) at from to (chain_of cs order) (nothing_before at) (outside_and_origin cs at old h).0 room))),
+      there,
+      moved_end old at from to m (image cs (start_of m)) less s e there,
+    )
 
 pub new_mark_law : NewMarkLaw
 new_mark_law cs at old from to m order h room s e =

@@ -1,5 +1,5 @@
 -- From a place of the new text up to the next change: the old text lies as far behind the old place.
-use Rattle.std.proofs.Common.{◌≡◌, Bool, true, false, not, ◌&&◌, ◌||◌, if◌then◌else◌, List, [], ◌∷◌, map, Option, Some, None}
+use Rattle.std.proofs.Common.{◌≡◌, Bool, true, false, not, ◌&&◌, ◌||◌, if◌then◌else◌, List, [], ◌∷◌, map, Option, Some}
 use Rattle.std.proofs.Common.{inl, inr, refl, sym, ap, ◌∙◌, subst}
 use Rattle.std.specs.List.{find, list_all}
 use Rattle.text_pos.specs.declared.length.Length.{Length}
@@ -8,7 +8,7 @@ use Rattle.change_defs.specs.declared.Joint.{Joint}
 use Rattle.change_defs.specs.declared.Placed.{Placed}
 use Rattle.change_defs.specs.Changes.{is_less, rest_of, carried, end_before, is_inside, turned, turned_joint, gap}
 use Rattle.change_laws.specs.Chains.{Follows, Chain, has_room, is_within_room}
-use Rattle.change_laws.proofs.Order.{less_not_back, less_then_up, up_then_less, up_then_up, plus_rest, plus_not_less, plus_less}
+use Rattle.change_laws.proofs.Order.{less_not_back, less_then_up, up_then_up, plus_rest, plus_not_less, plus_less}
 use Rattle.change_laws.proofs.Chains.{carried_plus, carried_order, carried_not_before, turned_chain, passed, none_passed}
 use Rattle.change_laws.proofs.Chains.{is_or, image_not_before, first_outside, others_outside, outside_late, outside_early}
 use Rattle.change_laws.proofs.Chains.{none_inside}
@@ -79,16 +79,16 @@ there_now : (joint : Joint) (p : Placed) (ps : List Placed) (at len : Length) �
     → IsThere joint (p ∷ ps) at len (turned_joint joint)
 there_now joint p ps at len c h k room =
     let early : is_less (plus (carried (turned_joint joint) at) len) p.from.old ≡ true =
-        next_order joint p at len c.0 h k ∙ room in
+    next_order joint p at len c.0 h k ∙ room in
     let earlier = less_then_up (plus (carried (turned_joint joint) at) len) p.from.old p.to.old early c.0.old_end in
     record {
-  same_end = none_passed joint p ps (plus (carried (turned_joint joint) at) len) c earlier;
-  outside = outside_early p ps (plus (carried (turned_joint joint) at) len)
-      (less_not_back (plus (carried (turned_joint joint) at) len) p.from.old early)
-      (none_inside p.to ps (plus (carried (turned_joint joint) at) len) c.1
-      (less_not_back (plus (carried (turned_joint joint) at) len) p.to.old earlier));
-  behind = h;
-}
+      same_end = none_passed joint p ps (plus (carried (turned_joint joint) at) len) c earlier;
+      outside = outside_early p ps (plus (carried (turned_joint joint) at) len)
+          (less_not_back (plus (carried (turned_joint joint) at) len) p.from.old early)
+          (none_inside p.to ps (plus (carried (turned_joint joint) at) len) c.1
+          (less_not_back (plus (carried (turned_joint joint) at) len) p.to.old earlier));
+      behind = h;
+    }
 
 there_later : (joint : Joint) (p : Placed) (ps : List Placed) (at len : Length) (last : Joint) → IsThere p.to ps at len last
     → is_less (plus (carried last at) len) p.to.old ≡ false → IsThere joint (p ∷ ps) at len last
@@ -149,8 +149,8 @@ apart_there joint (p ∷ ps) at from to c h out room = elim (is_or (is_less at p
   | inl now ↦
       let k = first_outside (turned p) (map turned ps) at out now in
       let early : is_less p.from.old (plus (carried (turned_joint joint) at) to) ≡ false =
-          next_order_back joint p at to c.0 h k
-          ∙ is_not (is_less (rest_of p.from.new at) to) (subst (λ o. is_within_room o to ≡ true) (gap_now p ps at now) room) in
+      next_order_back joint p at to c.0 h k
+      ∙ is_not (is_less (rest_of p.from.new at) to) (subst (λ o. is_within_room o to ≡ true) (gap_now p ps at now) room) in
       subst (λ (j : Joint). list_all (apart (plus (carried j at) from) (plus (carried j at) to)) (p ∷ ps) ≡ true)
       (sym (behind_now joint p ps at c now))
       (first_apart p ps (plus (carried (turned_joint joint) at) from) (plus (carried (turned_joint joint) at) to) early
@@ -174,8 +174,8 @@ new_apart_there joint (p ∷ ps) at from to c out room = elim (is_or (is_less at
   | inl now ↦
       let k = first_outside (turned p) (map turned ps) at out now in
       let early : is_less p.from.new (plus at to) ≡ false =
-          ap (λ l. is_less l (plus at to)) (sym (plus_rest at p.from.new k)) ∙ plus_less at (rest_of p.from.new at) to
-          ∙ is_not (is_less (rest_of p.from.new at) to) (subst (λ o. is_within_room o to ≡ true) (gap_now p ps at now) room) in
+      ap (λ l. is_less l (plus at to)) (sym (plus_rest at p.from.new k)) ∙ plus_less at (rest_of p.from.new at) to
+      ∙ is_not (is_less (rest_of p.from.new at) to) (subst (λ o. is_within_room o to ≡ true) (gap_now p ps at now) room) in
       first_apart (turned p) (map turned ps) (plus at from) (plus at to) early
       (all_apart (turned_joint p.to) (map turned ps) (plus at from) (plus at to) (turned_chain p.to ps c.1)
       (up_then_up (plus at to) p.from.new p.to.new early c.0.new_end))

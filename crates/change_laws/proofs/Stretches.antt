@@ -1,7 +1,6 @@
 -- From a place of the new text up to the next change, both texts have the same marks.
 use Rattle.std.proofs.Common.{◌≡◌, ℕ, ◌+◌, ◌-◌, ◌<◌, Bool, true, false, not, ◌&&◌, ◌||◌, if◌then◌else◌, List, [], ◌∷◌, map, filter}
-use Rattle.std.proofs.Common.{Option, Some, None, ◌⊎◌, inl, inr, refl, sym, ap, ◌∙◌, subst, arith}
-use Rattle.std.specs.List.{list_all}
+use Rattle.std.proofs.Common.{Option, Some, None, inl, inr, refl, sym, ap, ◌∙◌, subst, arith}
 use Rattle.std.proofs.lemmas.Bool.Decides.{nat_tests}
 use Rattle.text_pos.specs.declared.length.Length.{Length}
 use Rattle.text_pos.specs.Lengths.{plus}
@@ -17,9 +16,9 @@ use Rattle.change_defs.specs.Agreement.{start_of, end_of, is_clear, moved, clear
 use Rattle.change_laws.specs.Chains.{Chain, has_room, is_within_room}
 use Rattle.change_laws.specs.PlaceLaws.{lies_between, StretchLaw}
 use Rattle.change_laws.proofs.Order.{less_not_back, less_then_up, up_then_less, up_then_up, plus_rest, rest_plus, plus_not_less, plus_less}
-use Rattle.change_laws.proofs.Chains.{nothing_before, chain_of, turned_chain, carried_back, carried_order, passed, none_passed}
+use Rattle.change_laws.proofs.Chains.{nothing_before, chain_of, carried_back, carried_order, passed, none_passed}
 use Rattle.change_laws.proofs.Chains.{is_or, image_not_before, first_outside, others_outside}
-use Rattle.change_laws.proofs.Rooms.{end_behind, next_gap, gap_now, gap_later, behind_now, behind_later, apart, is_not}
+use Rattle.change_laws.proofs.Rooms.{end_behind, next_gap, gap_now, gap_later, behind_now, behind_later, is_not}
 use Rattle.change_laws.proofs.PlaceLaws.{outside_and_origin, old_mark_law, new_mark_law, less_in_room}
 
 -- ---- back from an image
@@ -44,7 +43,7 @@ ends_behind_image joint [] at c h a = refl
 ends_behind_image joint (p ∷ ps) at c h a = elim (is_or (is_less at p.to.old)) [
   | inl early ↦
       let before_it : is_less (carried joint at) p.from.new ≡ true =
-          ap (λ l. is_less (carried joint at) l) c.0.even ∙ carried_order joint at p.from.old h c.0.old_start ∙ a.0 early in
+      ap (λ l. is_less (carried joint at) l) c.0.even ∙ carried_order joint at p.from.old h c.0.old_start ∙ a.0 early in
       subst (λ (j : Joint). end_behind joint (p ∷ ps) (carried j at) ≡ turned_joint j) (sym (none_passed joint p ps at c early))
       (behind_now joint p ps (carried joint at) c (less_then_up (carried joint at) p.from.new p.to.new before_it c.0.new_end))
   | inr late ↦
@@ -68,7 +67,7 @@ behind_same joint (p ∷ ps) at len c out room = elim (is_or (is_less at p.to.ne
       let k = first_outside (turned p) (map turned ps) at out now in
       let r : is_less len (rest_of p.from.new at) ≡ true = subst (λ o. has_room o len ≡ true) (gap_now p ps at now) room in
       let before_it : is_less (plus at len) p.from.new ≡ true =
-          ap (λ l. is_less (plus at len) l) (sym (plus_rest at p.from.new k)) ∙ plus_less at len (rest_of p.from.new at) ∙ r in
+      ap (λ l. is_less (plus at len) l) (sym (plus_rest at p.from.new k)) ∙ plus_less at len (rest_of p.from.new at) ∙ r in
       behind_now joint p ps (plus at len) c (less_then_up (plus at len) p.from.new p.to.new before_it c.0.new_end)
       ∙ sym (behind_now joint p ps at c now)
   | inr late ↦ behind_later joint p ps (plus at len) (up_then_up p.to.new at (plus at len) late (plus_not_less at len))
@@ -145,14 +144,14 @@ lies at len m some h =
     let late : is_less (end_of m) at ≡ false = less_not_back at (end_of m) (up_then_less at (start_of m) (end_of m) both.0 some) in
     let stop : plus at (rest_of (end_of m) at) ≡ end_of m = plus_rest at (end_of m) late in
     record {
-  from = rest_of (start_of m) at;
-  to = rest_of (end_of m) at;
-  starts = sym start;
-  ends = sym stop;
-  rises = sym (plus_less at (rest_of (start_of m) at) (rest_of (end_of m) at))
-      ∙ ap (λ l. is_less l (plus at (rest_of (end_of m) at))) start ∙ ap (λ l. is_less (start_of m) l) stop ∙ some;
-  within = sym (plus_less at len (rest_of (end_of m) at)) ∙ ap (λ l. is_less (plus at len) l) stop ∙ both.1;
-}
+      from = rest_of (start_of m) at;
+      to = rest_of (end_of m) at;
+      starts = sym start;
+      ends = sym stop;
+      rises = sym (plus_less at (rest_of (start_of m) at) (rest_of (end_of m) at))
+          ∙ ap (λ l. is_less l (plus at (rest_of (end_of m) at))) start ∙ ap (λ l. is_less (start_of m) l) stop ∙ some;
+      within = sym (plus_less at len (rest_of (end_of m) at)) ∙ ap (λ l. is_less (plus at len) l) stop ∙ both.1;
+    }
 
 lies_from : (at len from to : Length) (m : Mark) → start_of m ≡ plus at from → end_of m ≡ plus at to
     → is_less len to ≡ false → lies_between at (plus at len) m ≡ true
@@ -199,17 +198,17 @@ moved_lies : (cs : List Change) (at old len : Length) (m : Mark) → are_in_orde
 moved_lies cs at old len m order h room some c l =
     let f = lies at len (moved cs m) (moved_some cs m some) l in
     let near : has_room (distance cs at) f.from ≡ true =
-        less_in_room (distance cs at) f.from f.to f.rises (shorter (distance cs at) len f.to room f.within) in
+    less_in_room (distance cs at) f.from f.to f.rises (shorter (distance cs at) len f.to room f.within) in
     let start : start_of m ≡ plus old f.from =
-        sym (origin_of_image cs (start_of m) order (clear_apart (placed cs) m (marks_some m some) c))
-        ∙ ap (λ x. origin cs x) f.starts ∙ origin_further cs at old f.from order h near in
+    sym (origin_of_image cs (start_of m) order (clear_apart (placed cs) m (marks_some m some) c))
+    ∙ ap (λ x. origin cs x) f.starts ∙ origin_further cs at old f.from order h near in
     let wide : Length = record { lines = 0; cols = m.to - m.at.col } in
     let new_end : plus at f.to ≡ plus at (plus f.from wide) =
-        sym f.ends ∙ end_further (start_of (moved cs m)) at f.from (m.to - m.at.col) f.starts in
+    sym f.ends ∙ end_further (start_of (moved cs m)) at f.from (m.to - m.at.col) f.starts in
     let same : f.to ≡ plus f.from wide =
-        sym (rest_plus at f.to) ∙ ap (λ x. rest_of x at) new_end ∙ rest_plus at (plus f.from wide) in
+    sym (rest_plus at f.to) ∙ ap (λ x. rest_of x at) new_end ∙ rest_plus at (plus f.from wide) in
     let old_end : end_of m ≡ plus old f.to =
-        own_end m some ∙ end_further (start_of m) old f.from (m.to - m.at.col) start ∙ ap (λ x. plus old x) (sym same) in
+    own_end m some ∙ end_further (start_of m) old f.from (m.to - m.at.col) start ∙ ap (λ x. plus old x) (sym same) in
     lies_from old len f.from f.to m start old_end f.within
 
 -- ---- lists of marks
@@ -252,16 +251,16 @@ old_list cs at old len (m ∷ ms) order h room some =
     let more = old_list cs at old len ms order h room some.1 in
     let to_new = old_lies_clear cs at old len m order h room some.0 in
     elim (is_or (is_clear (placed cs) m)) [
-  | inl c ↦
-      let e : lies_between old (plus old len) m ≡ lies_between at (plus at len) (moved cs m) =
+      | inl c ↦
+          let e : lies_between old (plus old len) m ≡ lies_between at (plus at len) (moved cs m) =
           equal_tests (lies_between old (plus old len) m) (lies_between at (plus at len) (moved cs m))
           (λ l. (to_new l).1) (λ l. moved_lies cs at old len m order h room some.0 c l) in
-      kept (lies_between old (plus old len) m) (is_clear (placed cs) m) (moved cs) (lies_between at (plus at len)) m
+          kept (lies_between old (plus old len) m) (is_clear (placed cs) m) (moved cs) (lies_between at (plus at len)) m
           (filter (lies_between old (plus old len)) ms) (clear_old cs ms) c e more
-  | inr c ↦ dropped (lies_between old (plus old len) m) (is_clear (placed cs) m) (moved cs) (lies_between at (plus at len)) m
-      (filter (lies_between old (plus old len)) ms) (clear_old cs ms)
-      c (unless (lies_between old (plus old len) m) (is_clear (placed cs) m) (λ l. (to_new l).0) c) more
-]
+      | inr c ↦ dropped (lies_between old (plus old len) m) (is_clear (placed cs) m) (moved cs) (lies_between at (plus at len)) m
+          (filter (lies_between old (plus old len)) ms) (clear_old cs ms)
+          c (unless (lies_between old (plus old len) m) (is_clear (placed cs) m) (λ l. (to_new l).0) c) more
+    ]
 
 new_list : (cs : List Change) (at old len : Length) (ms : List Mark) → are_in_order cs ≡ true → before cs at ≡ Some old
     → is_within_room (distance cs at) len ≡ true → AreSome ms

@@ -5,7 +5,6 @@ use Rattle.text_pos.specs.Lengths.{plus}
 use Rattle.pairing_defs.specs.declared.Mark.{Mark}
 use Rattle.tree_defs.specs.Cuts.{AreSome}
 use Rattle.change_defs.specs.declared.Change.{Change}
-use Rattle.change_defs.specs.declared.Placed.{Placed}
 use Rattle.change_defs.specs.Changes.{is_less, are_in_order, placed, back, is_inside, image, origin, before, distance}
 use Rattle.change_defs.specs.Agreement.{start_of, end_of, is_clear, moved, clear_old, clear_new}
 use Rattle.change_laws.specs.Chains.{has_room, is_within_room}

@@ -1,10 +1,9 @@
+use crate::changes::{Both, Numbers, Piece, changes_by, changes_of};
+use crate::walk::{Found, found_by_walk};
 use edit_mapper::{Mapper, Spans};
 use std::alloc::{AllocError, Global};
 use std::test::Fail;
 use text_pos::Length;
-
-use crate::changes::{Both, Numbers, Piece, changes_by, changes_of};
-use crate::walk::{Found, found_by_walk};
 
 /// What is found by halves.
 fn found(mapper: &Mapper, offset: Length) -> Found {
@@ -44,7 +43,11 @@ fn halves_find_what_a_walk_finds(rt: HostRuntime) -> Result<(), Fail> {
         let both = changes_by(rt.alloc(), &mut numbers, count % 20)?;
         let mapper = Mapper::new(&both.spans);
         for place in &places {
-            assert_eq!(rt; found(&mapper, *place), found_by_walk(both.plain.as_slice(), *place), "list {count}, place {place:?}");
+            assert_eq!(rt;
+                found(&mapper, *place),
+                found_by_walk(both.plain.as_slice(), *place),
+                "list {count}, place {place:?}"
+            );
         }
     }
     Ok(())
