@@ -3,3 +3,4 @@ pub mod Order
 pub mod PlaceLaws
 pub mod Placing
 pub mod Rooms
+pub mod Stretches

@@ -57,7 +57,7 @@ room_law cs at old len order h room =
 )
 
 -- ---- marks
-less_in_room : (o : Option Length) (from to : Length) → is_less from to ≡ true → is_within_room o to ≡ true
+pub less_in_room : (o : Option Length) (from to : Length) → is_less from to ≡ true → is_within_room o to ≡ true
     → has_room o from ≡ true
 less_in_room None from to h k = refl
 less_in_room (Some room) from to h k = less_then_up from to room h (is_not (is_less room to) k)

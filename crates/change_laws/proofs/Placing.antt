@@ -99,3 +99,14 @@ pub last_not_behind : (cs : List Change) (c : Change) → starts_behind cs c ≡
     → is_less c.start (last_joint first_joint cs).old ≡ false
 last_not_behind [] c h = none_before c.start
 last_not_behind (d ∷ cs) c h = less_not_back (last_joint first_joint (d ∷ cs)).old c.start h
+
+-- a change that starts behind the end of the last starts behind all
+pub starts_from_last : (cs : List Change) (c : Change) → is_less (last_joint first_joint cs).old c.start ≡ true
+    → starts_behind cs c ≡ true
+starts_from_last [] c h = refl
+starts_from_last (d ∷ cs) c h = h
+
+pub last_more : (joint : Joint) (cs : List Change) (c : Change)
+    → last_joint joint (cs ++ c ∷ []) ≡ end_joint (last_joint joint cs) c
+last_more joint [] c = refl
+last_more joint (d ∷ cs) c = last_more (end_joint joint d) cs c

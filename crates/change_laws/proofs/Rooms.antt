@@ -20,11 +20,11 @@ end_behind joint ps at = end_before (turned_joint joint) (map turned ps) at
 abbrev pub next_gap : List Placed → Length → Option Length
 next_gap ps at = gap at (find (λ p. is_less at p.to.new) ps)
 
-gap_now : (p : Placed) (ps : List Placed) (at : Length) → is_less at p.to.new ≡ true
+pub gap_now : (p : Placed) (ps : List Placed) (at : Length) → is_less at p.to.new ≡ true
     → next_gap (p ∷ ps) at ≡ Some (rest_of p.from.new at)
 gap_now p ps at h = ap (λ b. gap at (if b then Some p else find (λ q. is_less at q.to.new) ps)) h
 
-gap_later : (p : Placed) (ps : List Placed) (at : Length) → is_less at p.to.new ≡ false
+pub gap_later : (p : Placed) (ps : List Placed) (at : Length) → is_less at p.to.new ≡ false
     → next_gap (p ∷ ps) at ≡ next_gap ps at
 gap_later p ps at h = ap (λ b. gap at (if b then Some p else find (λ q. is_less at q.to.new) ps)) h
 
@@ -60,11 +60,11 @@ old_behind joint ps at len c h = up_then_up joint.old (carried (end_behind joint
     (image_not_before (turned_joint joint) (map turned ps) at (turned_chain joint ps c) h)
     (plus_not_less (carried (end_behind joint ps at) at) len)
 
-behind_now : (joint : Joint) (p : Placed) (ps : List Placed) (at : Length) → Chain joint (p ∷ ps)
+pub behind_now : (joint : Joint) (p : Placed) (ps : List Placed) (at : Length) → Chain joint (p ∷ ps)
     → is_less at p.to.new ≡ true → end_behind joint (p ∷ ps) at ≡ turned_joint joint
 behind_now joint p ps at c h = none_passed (turned_joint joint) (turned p) (map turned ps) at (turned_chain joint (p ∷ ps) c) h
 
-behind_later : (joint : Joint) (p : Placed) (ps : List Placed) (at : Length) → is_less at p.to.new ≡ false
+pub behind_later : (joint : Joint) (p : Placed) (ps : List Placed) (at : Length) → is_less at p.to.new ≡ false
     → end_behind joint (p ∷ ps) at ≡ end_behind p.to ps at
 behind_later joint p ps at h = passed (turned_joint joint) (turned p) (map turned ps) at h
 

@@ -1,12 +1,13 @@
 -- Laws of places and of marks over changes.
-use Rattle.std.specs.Prelude.{◌≡◌, ℕ, true, false, List, slice_get, Some}
+use Rattle.std.specs.Prelude.{◌≡◌, ◌&&◌, Bool, true, false, not, List, map, filter, Some}
 use Rattle.text_pos.specs.declared.length.Length.{Length}
 use Rattle.text_pos.specs.Lengths.{plus}
 use Rattle.pairing_defs.specs.declared.Mark.{Mark}
+use Rattle.tree_defs.specs.Cuts.{AreSome}
 use Rattle.change_defs.specs.declared.Change.{Change}
 use Rattle.change_defs.specs.declared.Placed.{Placed}
 use Rattle.change_defs.specs.Changes.{is_less, are_in_order, placed, back, is_inside, image, origin, before, distance}
-use Rattle.change_defs.specs.Agreement.{start_of, end_of, is_clear, moved}
+use Rattle.change_defs.specs.Agreement.{start_of, end_of, is_clear, moved, clear_old, clear_new}
 use Rattle.change_laws.specs.Chains.{has_room, is_within_room}
 
 -- of two old places the first of which lies strictly inside no change, the one behind has its image behind, or both have
@@ -39,3 +40,15 @@ abbrev pub NewMarkLaw : Type 0
 NewMarkLaw = (cs : List Change) (at old from to : Length) (m : Mark) → are_in_order cs ≡ true → before cs at ≡ Some old
     → is_within_room (distance cs at) to ≡ true → start_of m ≡ plus at from → end_of m ≡ plus at to
     → is_clear (back cs) m ≡ true
+
+-- a mark lies between two places, ends included
+abbrev pub lies_between : Length → Length → Mark → Bool
+lies_between from to m = not (is_less (start_of m) from) && not (is_less to (end_of m))
+
+-- where the marks that are clear of all changes are the same, the marks that lie there are the same in both texts
+abbrev pub StretchLaw : Type 0
+StretchLaw = (cs : List Change) (at old len : Length) (old_marks new_marks : List Mark) → are_in_order cs ≡ true
+    → before cs at ≡ Some old → is_within_room (distance cs at) len ≡ true → AreSome old_marks → AreSome new_marks
+    → map (moved cs) (clear_old cs old_marks) ≡ clear_new cs new_marks
+    → map (moved cs) (filter (lies_between old (plus old len)) old_marks)
+    ≡ filter (lies_between at (plus at len)) new_marks

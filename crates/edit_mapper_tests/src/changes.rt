@@ -80,21 +80,33 @@ struct Behind {
     joint: Joint,
 }
 
+/// How far a change starts behind the end of the one before, how long it is, and how long what takes its place is.
+#[derive(Clone, Copy)]
+pub(crate) struct Piece {
+    pub(crate) gap: Length,
+    pub(crate) old: Length,
+    pub(crate) new: Length,
+}
+
 /// A change some way behind a joint, where it lies behind it and is of 32 bits in both texts.
-fn behind(joint: Joint, gap: Length, old: Length, new: Length) -> Option<Behind>
+fn change_behind(joint: Joint, piece: Piece) -> Option<Behind>
     ensures order { IfSome result (λ b. is_less joint.old b.change.start ≡ true) }
     ensures fits { IfSome result (λ b. placed_fits (placed_at joint b.change) ≡ true) }
     ensures joint { IfSome result (λ b. b.joint ≡ end_joint joint b.change) }
 {
-    let start = sum(joint.old, gap)?;
-    let from = sum(joint.new, gap)?;
-    let end = sum(start, old)?;
-    let to = sum(from, new)?;
+    let start = sum(joint.old, piece.gap)?;
+    let from = sum(joint.new, piece.gap)?;
+    let end = sum(start, piece.old)?;
+    let to = sum(from, piece.new)?;
     if !is_less(joint.old, start) {
         return None;
     }
     Some(Behind {
-        change: Change { start, old, new },
+        change: Change {
+            start,
+            old: piece.old,
+            new: piece.new,
+        },
         joint: Joint { old: end, new: to },
     })
 }
@@ -106,28 +118,38 @@ pub(crate) struct Both {
     pub(crate) plain: Vec<Change>,
 }
 
-/// Changes that a number tells.
-pub(crate) fn changes_by(
-    alloc: Global,
-    numbers: &mut Numbers,
-    count: u32,
-) -> Result<Both, AllocError> {
-    let mut both = Both {
-        spans: Spans::none(alloc),
-        plain: Vec::new(alloc),
-    };
+/// Changes of these pieces, but for those that aren't behind the ones before or not of 32 bits.
+pub(crate) fn changes_of(alloc: Global, pieces: &[Piece]) -> Result<Both, AllocError> {
+    let mut spans = Spans::none(alloc);
+    let mut plain = Vec::new(alloc);
     let start = Length { lines: 0, cols: 0 };
     let mut joint = Joint {
         old: start,
         new: start,
     };
-    for _ in 0..count {
-        let next = behind(joint, numbers.length(), numbers.length(), numbers.length());
-        if let Some(next) = next {
-            both.spans.push(next.change)?;
-            both.plain.push(next.change)?;
+    for piece in pieces {
+        if let Some(next) = change_behind(joint, *piece) {
+            spans.push(next.change)?;
+            plain.push(next.change)?;
             joint = next.joint;
         }
     }
-    Ok(both)
+    Ok(Both { spans, plain })
+}
+
+/// Changes that numbers tell.
+pub(crate) fn changes_by(
+    alloc: Global,
+    numbers: &mut Numbers,
+    count: u32,
+) -> Result<Both, AllocError> {
+    let mut pieces = Vec::new(alloc);
+    for _ in 0..count {
+        pieces.push(Piece {
+            gap: numbers.length(),
+            old: numbers.length(),
+            new: numbers.length(),
+        })?;
+    }
+    changes_of(alloc, pieces.as_slice())
 }

@@ -1,9 +1,9 @@
-use edit_mapper::{Change, Mapper, Spans};
+use edit_mapper::{Mapper, Spans};
 use std::alloc::{AllocError, Global};
 use std::test::Fail;
 use text_pos::Length;
 
-use crate::changes::{Both, Numbers, changes_by};
+use crate::changes::{Both, Numbers, Piece, changes_by, changes_of};
 use crate::walk::{Found, found_by_walk};
 
 /// What is found by halves.
@@ -50,32 +50,34 @@ fn halves_find_what_a_walk_finds(rt: HostRuntime) -> Result<(), Fail> {
     Ok(())
 }
 
-/// Two changes in a line: two characters become five, and one is put before the fifth; behind them one of the second
-/// line goes.
-fn three_changes(alloc: Global) -> Result<Spans, AllocError> {
-    let mut spans = Spans::none(alloc);
-    spans.push(Change {
-        start: far(0, 1),
-        old: far(0, 2),
-        new: far(0, 5),
-    })?;
-    spans.push(Change {
-        start: far(0, 4),
-        old: far(0, 0),
-        new: far(0, 1),
-    })?;
-    spans.push(Change {
-        start: far(1, 3),
-        old: far(0, 1),
-        new: far(0, 0),
-    })?;
-    Ok(spans)
+/// In line 0 two characters behind the first become five, and one is put before the fifth; in line 1 the fourth goes.
+fn three_changes(alloc: Global) -> Result<Both, AllocError> {
+    changes_of(
+        alloc,
+        &[
+            Piece {
+                gap: far(0, 1),
+                old: far(0, 2),
+                new: far(0, 5),
+            },
+            Piece {
+                gap: far(0, 1),
+                old: far(0, 0),
+                new: far(0, 1),
+            },
+            Piece {
+                gap: far(1, 3),
+                old: far(0, 1),
+                new: far(0, 0),
+            },
+        ],
+    )
 }
 
 #[test]
 fn places_lead_back_over_changes(rt: HostRuntime) -> Result<(), Fail> {
-    let spans = three_changes(rt.alloc())?;
-    let mapper = Mapper::new(&spans);
+    let both = three_changes(rt.alloc())?;
+    let mapper = Mapper::new(&both.spans);
     for (place, before, distance) in [
         (far(0, 0), Some(far(0, 0)), Some(far(0, 1))),
         (far(0, 1), Some(far(0, 1)), Some(far(0, 0))),

@@ -8,7 +8,7 @@ struct Wide {
     cols: u64,
 }
 
-fn wide(length: Length) -> Wide {
+fn widened(length: Length) -> Wide {
     Wide {
         lines: u64::from(length.lines),
         cols: u64::from(length.cols),
@@ -65,12 +65,12 @@ pub(crate) struct Found {
 
 /// From the first change on: each is passed that ends at or before the place.
 pub(crate) fn found_by_walk(changes: &[Change], offset: Length) -> Found {
-    let place = wide(offset);
+    let place = widened(offset);
     let mut old = Wide { lines: 0, cols: 0 };
     let mut new = old;
     for change in changes {
-        let from = sum(new, rest(wide(change.start), old));
-        let to = sum(from, wide(change.new));
+        let from = sum(new, rest(widened(change.start), old));
+        let to = sum(from, widened(change.new));
         if is_before(place, to) {
             if is_before(from, place) {
                 return Found {
@@ -85,7 +85,7 @@ pub(crate) fn found_by_walk(changes: &[Change], offset: Length) -> Found {
                 distance: if before.is_some() { gap } else { None },
             };
         }
-        old = sum(wide(change.start), wide(change.old));
+        old = sum(widened(change.start), widened(change.old));
         new = to;
     }
     Found {

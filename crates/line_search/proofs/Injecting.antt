@@ -30,7 +30,7 @@ use Rattle.line_search.specs.Finds.{found_of as found_in}
 use Rattle.line_search.specs.Lists.{early}
 use Rattle.line_search.specs.Choices.{HaveRoom, first_of, first_place}
 use Rattle.line_search.specs.Prepared.{Prepared, prepared, all_prepared, group_choices, IsPrepared, ArePrepared, HasRoomFor}
-use Rattle.line_search.specs.Prepared.{holds_of, holding, none_prepared, prepared_at, found_by_numbers, scan_where}
+use Rattle.line_search.specs.Prepared.{holds_of, holding, NoneHolds, none_prepared, prepared_at, found_by_numbers, scan_where}
 use Rattle.line_search.specs.Prepared.{found_by_prepared}
 use Rattle.line_search.specs.Asking.{prepared_of, IsReady, AreReady}
 use Rattle.rule_table.specs.declared.injection.Injection.{Injection}
@@ -131,6 +131,15 @@ holding_from scopes n (p ∷ all) count whole =
 pub holding_below : (scopes : Scopes) (all : List Prepared) →
     All (λ number. number < length all) (holding scopes 0 all)
 holding_below scopes all = holding_from scopes 0 all (length all) (omega arith)
+
+-- ---- where none holds
+
+pub none_found : (s : Sight) (scopes : Scopes) (all : List Prepared) → NoneHolds scopes all
+    → found_by_prepared s scopes all None ≡ Keeps None
+none_found s scopes [] none = refl
+none_found s scopes (p ∷ all) none =
+    ap (λ b. after_one s (scan_where b s p.choices) p.first None (found_by_prepared s scopes all)) none.0
+    ∙ none_found s scopes all none.1
 
 -- ---- what they find
 

@@ -1,7 +1,8 @@
 -- How injections stand ready in code, and which of them hold of scopes that were asked for.
-use Rattle.std.specs.Prelude.{◌≡◌, ℕ, ◌<◌, List, length, map, All}
+use Rattle.std.specs.Prelude.{◌≡◌, ℕ, ◌<◌, List, length, map, All, IfSome}
 use Rattle.std.specs.Rc.{rc_value}
-use Rattle.scope_defs.specs.SelectorSyntax.{entries_of}
+use Rattle.scope_defs.specs.SelectorSyntax.{entries_of, entry_at}
+use Rattle.selectors.specs.Needs.{Needs}
 use Rattle.rule_table.specs.Views.{Table}
 use Rattle.line_search.specs.declared.injected.Ready.{Ready}
 use Rattle.line_search.specs.declared.injected.Asked.{Asked}
@@ -20,9 +21,14 @@ prepared_of r = record {
 abbrev pub HasEntry : Ready → Type 0
 HasEntry r = r.entry < length (entries_of (rc_value r.selector))
 
+-- where it has a key, it holds of no scopes without a name that has this key
+abbrev pub HasKey : Ready → Type 0
+HasKey r = IfSome r.key (Needs (entry_at (rc_value r.selector) r.entry).matcher)
+
 -- it has the patterns of its rule, which fit a table
 pub record IsReady (table : Table) (r : Ready) : Type 0 where
   pub entry : HasEntry r
+  pub key : HasKey r
   pub choices : rc_value r.choices ≡ group_choices table.rules r.rule.0
   pub fit : AreOf (length table.rules) table.groups (rc_value r.choices)
 
@@ -37,5 +43,6 @@ prepared_in i = map prepared_of i.ready.items
 
 pub record IsInjected (i : Inside) : Type 0 where
   pub entries : All HasEntry i.ready.items
+  pub keys : All HasKey i.ready.items
   pub some : 0 < length i.asked.items
   pub asked : All (IsAsked (prepared_in i)) i.asked.items

@@ -62,6 +62,10 @@ holding scopes n [] = []
 holding scopes n (p ∷ all) =
     if holds_of p scopes then n ∷ holding scopes (n + 1) all else holding scopes (n + 1) all
 
+abbrev pub NoneHolds : Scopes → List Prepared → Type 0
+NoneHolds scopes [] = Unit {0}
+NoneHolds scopes (p ∷ all) = (holds_of p scopes ≡ false) × NoneHolds scopes all
+
 -- ---- what they find
 
 abbrev pub none_prepared : Prepared

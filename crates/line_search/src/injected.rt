@@ -1,13 +1,12 @@
-ghost use Rattle.std.specs.Prelude.{◌≡◌, ℕ, ◌+◌, ◌<◌, ◌≤◌, ◌^◌, ◌++◌, [], ◌∷◌, ◌↔◌, All, length, map, slice_index_or, Option, None, IfOk, OnOk, IsTrue};
+ghost use Rattle.std.specs.Prelude.{◌≡◌, ℕ, ◌+◌, ◌<◌, ◌≤◌, ◌^◌, ◌++◌, [], ◌∷◌, ◌↔◌, All, false, length, map, slice_index_or, Option, None, IfOk, OnOk, IsTrue};
 ghost use Rattle.std.specs.Rc.{rc_value};
-ghost use Rattle.scope_defs.specs.SelectorSyntax.{entries_of};
 ghost use Rattle.rule_table.specs.Views.{listed_of};
 ghost use Rattle.rule_table.specs.Fits.{IsInjection};
 ghost use Rattle.line_defs.specs.Search.{scan};
 ghost use Rattle.line_search.specs.Choices.{AreOf, HaveOwners, choice_of_owned};
 ghost use Rattle.line_search.specs.Finds.{found_of, IfAt, IfNothing, IsOwner, IsPartFrom};
-ghost use Rattle.line_search.specs.Prepared.{prepared, all_prepared, group_choices, ArePrepared, HasRoomFor, holding, prepared_at, found_by_numbers, found_by_prepared};
-ghost use Rattle.line_search.specs.Asking.{prepared_of, HasEntry, AreReady, IsAsked};
+ghost use Rattle.line_search.specs.Prepared.{prepared, all_prepared, group_choices, ArePrepared, HasRoomFor, holds_of, holding, NoneHolds, prepared_at, found_by_numbers, found_by_prepared};
+ghost use Rattle.line_search.specs.Asking.{prepared_of, HasEntry, HasKey, AreReady, IsAsked};
 ghost use Rattle.line_search.specs.Bests.{kept_of, injected_of, step_by, beaten, starts_earlier, wins_over, IsBest, IfSomeBest, IfBest, IfNone, IfStep, IfNext};
 ghost use Rattle.line_defs.specs.Injections.{Kept, Injected as LineInjected, after_one};
 
@@ -32,6 +31,8 @@ const MOST_ASKED: u64 = 64;
 struct Ready {
     selector: Rc<Selector>,
     entry: u64,
+    /// The key of a name that scopes need for it to hold, where it is known that they need one.
+    key: Option<u64>,
     /// Whether it goes before an ordinary match at the same place.
     first: bool,
     rule: RuleId,
@@ -140,6 +141,7 @@ fn push_ready(
     ready.push(Ready {
         selector: injection.selector.clone()?,
         entry: injection.entry,
+        key: injection.selector.needed_key(injection.entry),
         first: injection.priority == -1,
         rule: injection.rule,
         choices,
@@ -159,6 +161,30 @@ fn all_ready(alloc: Global, table: &RuleTable) -> Result<Vec<Ready>, AllocError>
     Ok(ready)
 }
 
+/// Whether an injection may hold of scopes, by the keys of their names.
+fn may_hold(ready: &Ready, scopes: &Scopes) -> bool
+    requires { HasKey ready.now }
+    ensures { (result ≡ false) → holds_of (prepared_of ready.now) scopes.now ≡ false }
+{
+    match ready.key {
+        Some(key) => scopes.may_have(key),
+        None => true,
+    }
+}
+
+/// Whether one of the injections may hold of scopes, by the keys of their names.
+fn some_may_hold(ready: &[Ready], scopes: &Scopes) -> bool
+    requires { All HasKey ready.now }
+    ensures { (result ≡ false) → NoneHolds scopes.now (map prepared_of ready.now) }
+{
+    for one in ready {
+        if may_hold(one, scopes) {
+            return true;
+        }
+    }
+    false
+}
+
 /// Adds the number of an injection, if that holds.
 fn push_holding(
     numbers: &mut Numbers,
@@ -166,10 +192,11 @@ fn push_holding(
     ready: &Ready,
     scopes: &Scopes,
 ) -> Result<(), AllocError>
-    requires { ready.now.entry < length (entries_of (rc_value ready.now.selector)) }
+    requires entry { HasEntry ready.now }
+    requires key { HasKey ready.now }
     ensures { OnOk result (numbers.new ≡ numbers.old ++ holding scopes.now number (prepared_of ready.now ∷ [])) }
 {
-    if ready.selector.holds(ready.entry, scopes) {
+    if may_hold(ready, scopes) && ready.selector.holds(ready.entry, scopes) {
         return numbers.push(number);
     }
     Ok(())
@@ -177,7 +204,8 @@ fn push_holding(
 
 /// Which injections hold of scopes.
 fn holding(alloc: Global, ready: &[Ready], scopes: &Scopes) -> Result<Rc<Numbers>, AllocError>
-    requires { All HasEntry ready.now }
+    requires entries { All HasEntry ready.now }
+    requires keys { All HasKey ready.now }
     ensures { IfOk result (λ numbers. rc_value numbers ≡ holding scopes.now 0 (map prepared_of ready.now)) }
 {
     let mut numbers = Numbers::new(alloc);
@@ -189,7 +217,8 @@ fn holding(alloc: Global, ready: &[Ready], scopes: &Scopes) -> Result<Rc<Numbers
 
 /// Room for scopes that are asked for, all filled with the answer for none.
 fn all_asked(alloc: Global, ready: &[Ready]) -> Result<Vec<Asked>, AllocError>
-    requires { All HasEntry ready.now }
+    requires entries { All HasEntry ready.now }
+    requires keys { All HasKey ready.now }
     ensures some { IfOk result (λ asked. 0 < length asked.items) }
     ensures asked { IfOk result (λ asked. All (IsAsked (map prepared_of ready.now)) asked.items) }
 {
@@ -212,6 +241,7 @@ fn ask(
     scopes: &Scopes,
 ) -> Result<usize, AllocError>
     requires entries { All HasEntry ready.now }
+    requires keys { All HasKey ready.now }
     requires some { 0 < length asked.old.items }
     requires asked { All (IsAsked (map prepared_of ready.now)) asked.old.items }
     ensures some { 0 < length asked.new.items }
@@ -424,6 +454,9 @@ impl Injected {
             (IsBest (record { text = text.now; place = from; flags = flags; budget = work.old.budget }) self.old)) }
         ensures stays { IfOk result (λ bests. IfNone bests (work.new.hit ≡ work.old.hit)) }
     {
+        if !some_may_hold(self.ready.as_slice(), scopes) {
+            return Ok(Bests::Kept(None));
+        }
         let at = ask(self.alloc, self.ready.as_slice(), &mut self.asked, scopes)?;
         let numbers = &self.asked[at].numbers;
         Ok(best_of(

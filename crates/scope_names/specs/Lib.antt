@@ -1,3 +1,4 @@
 pub mod Falls
+pub mod Keys
 pub mod Numbers
 pub mod View

@@ -5,6 +5,7 @@ use Rattle.std.specs.declared.alloc.Global.{Global}
 use Rattle.scope_defs.specs.declared.limits.TheConstants.{MOST_NAMES}
 use Rattle.scope_defs.specs.Scopes.{Scopes}
 use Rattle.scope_defs.specs.StandardType.{type_of}
+use Rattle.scope_names.specs.Keys.{keys_of}
 use Rattle.scope_names.specs.Numbers.{scopes_number}
 use Rattle.scope_names.specs.declared.scopes.Pushed.{Pushed}
 
@@ -18,6 +19,7 @@ pub record Keeps (p : Pushed) : Type 0 where
   pub few : p.len ≤ MOST_NAMES
   pub kind : p.kind ≡ type_of (pushed_names p)
   pub number : p.number ≡ scopes_number (pushed_names p)
+  pub keys : p.keys ≡ keys_of (pushed_names p)
 
 abbrev pub names_of : Option (Rc Pushed Global) → Scopes
 names_of None = []

@@ -1,6 +1,7 @@
 //! Scopes: shared lists of names, with their standard type.
 #![tactic(auto)]
 
+pub mod keys;
 pub mod numbers;
 mod piece;
 pub mod scopes;

@@ -1,10 +1,12 @@
-ghost use Rattle.std.specs.Prelude.{◌≡◌, ◌+◌, ◌-◌, ◌<◌, ◌≤◌, ◌↔◌, [], ◌++◌, length, take, reverse, slice_get, slice_index, fold, Some, IfOk, IsTrue};
+ghost use Rattle.std.specs.Prelude.{◌≡◌, ◌+◌, ◌-◌, ◌<◌, ◌≤◌, ◌↔◌, [], ◌++◌, false, length, take, reverse, slice_get, slice_index, fold, Some, IfOk, IsTrue};
 ghost use Rattle.std.specs.List.{filter_map};
 ghost use Rattle.std.specs.Iterator.{YieldsFirstBy, item_count};
 ghost use Rattle.scope_defs.specs.Scopes.{with_names, push};
 ghost use Rattle.scope_defs.specs.StandardType.{type_of_name, last_or, type_of};
+ghost use Rattle.scope_names.specs.Keys.{HasNoKey, key_of, keys_of, with_key};
 ghost use Rattle.scope_names.specs.Numbers.{mixed, name_number, scopes_number};
 
+use crate::keys::KeyBits;
 use crate::numbers::{SEED, mixed};
 use crate::piece::Piece;
 use crate::shared_name::SharedName;
@@ -33,6 +35,8 @@ struct Pushed {
     kind: StdType,
     /// The number that is made of its names.
     number: u64,
+    /// The bits of their keys.
+    keys: KeyBits,
 }
 
 impl Model for Scopes {
@@ -98,6 +102,23 @@ impl Scopes {
         }
     }
 
+    /// The bits of the names' keys.
+    fn keys(&self) -> KeyBits
+        ensures { result ≡ keys_of self.now }
+    {
+        match &self.top {
+            None => KeyBits::none(),
+            Some(pushed) => pushed.keys,
+        }
+    }
+
+    /// Whether one of the names may have this key. Where not, it is told without looking at the names.
+    pub fn may_have(&self, key: u64) -> bool
+        ensures { (result ≡ false) → HasNoKey key self.now }
+    {
+        self.keys().may_have(key)
+    }
+
     /// The same scopes, shared.
     pub fn copy(&self) -> Result<Scopes, AllocError>
         ensures { IfOk result (λ scopes. scopes ≡ self.now) }
@@ -126,6 +147,7 @@ impl Drop for Scopes {
                             len: _,
                             kind: _,
                             number: _,
+                            keys: _,
                         } = pushed;
                         self = below;
                     }
@@ -213,6 +235,17 @@ fn number_with(number: u64, names: &[Piece]) -> u64
     all
 }
 
+/// The bits of the keys of scopes with further names.
+fn keys_with(keys: KeyBits, names: &[Piece]) -> KeyBits
+    ensures { result ≡ fold (λ before name. with_key before (key_of name)) keys names.now }
+{
+    let mut all = keys;
+    for name in names {
+        all = all.with(name.key());
+    }
+    all
+}
+
 impl Scopes {
     /// Name `n`, from 0.
     pub fn name(&self, n: u32) -> &str
@@ -262,6 +295,7 @@ impl Scopes {
         let names = name.front(added);
         let kind = kind_with(self.std_type(), names);
         let number = number_with(self.number(), names);
+        let keys = keys_with(self.keys(), names);
         let len = self.len() + added as u32;
         let below = self.copy()?;
         let name = name.copy()?;
@@ -273,6 +307,7 @@ impl Scopes {
                 len,
                 kind,
                 number,
+                keys,
             },
         )?;
         Ok(Scopes { top: Some(pushed) })

@@ -3,6 +3,7 @@
 
 #[cfg(test)]
 mod tests {
+    use scope_names::keys::key_of;
     use scope_stack::{
         EndText, Frame, MOST_FRAMES, MOST_NAMES, RuleId, Scopes, SharedName, Stack, State, StdType,
         Token, TokenRows,
@@ -63,6 +64,16 @@ mod tests {
             assert!(rt; !at_once.same(&scopes_of(rt.alloc(), other)?), "{other}");
         }
         assert!(rt; Scopes::empty().same(&scopes_of(rt.alloc(), " ")?));
+        Ok(())
+    }
+
+    #[test]
+    fn lists_tell_keys_that_no_name_has(rt: HostRuntime) -> Result<(), Fail> {
+        let scopes = scopes_of(rt.alloc(), "source.shell string.quoted.double.shell")?;
+        assert!(rt; scopes.may_have(key_of("source.shell".as_bytes())));
+        assert!(rt; scopes.may_have(key_of("string.quoted".as_bytes())));
+        assert!(rt; !scopes.may_have(key_of("source.css".as_bytes())));
+        assert!(rt; !Scopes::empty().may_have(key_of("source.shell".as_bytes())));
         Ok(())
     }
 

@@ -2,4 +2,5 @@ pub mod Alike
 pub mod FirstFaults
 pub mod FoundBack
 pub mod KeptEntries
+pub mod NeedLaws
 pub mod Passing

@@ -1,5 +1,6 @@
 pub mod Machine
 pub mod Meanings
+pub mod Needs
 pub mod Piles
 pub mod RefusalLaws
 pub mod Refused

@@ -2,6 +2,7 @@
 #![tactic(auto)]
 
 mod laws;
+mod needs;
 mod paths;
 mod pile;
 mod reader;

@@ -1,9 +1,11 @@
-ghost use Rattle.std.specs.Prelude.{◌≡◌, ◌<◌, length, slice_index_or, MatchResult};
+ghost use Rattle.std.specs.Prelude.{◌≡◌, ◌<◌, length, slice_index_or, IfSome, MatchResult};
 ghost use Rattle.scope_defs.specs.Selectors.{holds};
 ghost use Rattle.scope_defs.specs.SelectorSyntax.{entries_of, entry_at};
 ghost use Rattle.selectors.specs.Meanings.{IsKept};
+ghost use Rattle.selectors.specs.Needs.{Needs};
 ghost use Rattle.selectors.specs.Refused.{IsRead, Explains};
 
+use crate::needs::needed_key;
 use crate::reader::read_signs;
 use crate::refusal::SelectorRefusal;
 use crate::sign::KeptEntry;
@@ -83,5 +85,14 @@ impl Selector {
     {
         let kept = self.kept(entry);
         signs_hold(kept.signs.as_slice(), scopes)
+    }
+
+    /// The key of a name that scopes need for an entry to hold, where it is known that they need one.
+    pub fn needed_key(&self, entry: u64) -> Option<u64>
+        requires { entry < length (entries_of self.now) }
+        ensures { IfSome result (Needs (entry_at self.now entry).matcher) }
+    {
+        let kept = self.kept(entry);
+        needed_key(kept.signs.as_slice())
     }
 }

@@ -4,6 +4,7 @@
 #[cfg(test)]
 mod tests {
     use scope_names::Scopes;
+    use scope_names::keys::key_of;
     use selectors::{Selector, SelectorRefusal};
     use std::alloc::{AllocError, Global};
     use std::test::Fail;
@@ -43,6 +44,28 @@ mod tests {
         assert!(rt; holds(rt.alloc(), &selector, 1, "s d.e")?);
         assert!(rt; !holds(rt.alloc(), &selector, 1, "s de")?);
         Ok(())
+    }
+
+    /// The key of a name that the first entry of a selector needs.
+    fn needed_key(alloc: Global, text: &str) -> Option<u64> {
+        let Ok(selector) = Selector::read(alloc, text) else {
+            return None;
+        };
+        if selector.entries() == 0 {
+            return None;
+        }
+        selector.needed_key(0)
+    }
+
+    #[test]
+    fn an_entry_needs_the_name_that_it_begins_with(rt: HostRuntime) {
+        let key = Some(key_of("source.css".as_bytes()));
+        assert_eq!(rt; needed_key(rt.alloc(), "source.css"), key);
+        assert_eq!(rt; needed_key(rt.alloc(), "source.css.x - (comment | string)"), key);
+        assert_eq!(rt; needed_key(rt.alloc(), "L:source.css meta.x"), key);
+        assert_eq!(rt; needed_key(rt.alloc(), "source"), None);
+        assert_eq!(rt; needed_key(rt.alloc(), "source.css | source.js"), None);
+        assert_eq!(rt; needed_key(rt.alloc(), "-source.css"), None);
     }
 
     /// Whether the first entry of a selector holds of the first scopes and not of the others.

@@ -1,6 +1,6 @@
 use Rattle.std.proofs.Common.{◌+◌, ◌∙◌, ap, arith}
 use Rattle.scope_names.specs.declared.scopes.Pushed.{Pushed}
-use Rattle.scope_names.proofs.Kept.{pushes_kept, kind_is, number_is}
+use Rattle.scope_names.proofs.Kept.{pushes_kept, kind_is, number_is, keys_are}
 use Rattle.scope_names.proofs.scopes.Scopes.push_shared.Goals as goal
 
 pub invariant_of-result : goal.invariant_of-result
@@ -15,4 +15,6 @@ invariant_of-result c =
           c.front-names.ensures;
       number = ap (λ (q : Pushed). q.number) made
           ∙ number_is _ _ _ _ _ c.number_with-number.ensures c.number.ensures c.front-names.ensures;
+      keys = ap (λ (q : Pushed). q.keys) made
+          ∙ keys_are _ _ _ _ _ c.keys_with-keys.ensures c.keys.ensures c.front-names.ensures;
     }) (omega arith) (omega (arith, c.len-2.ensures)) (omega (arith, c.len.ensures.few))
