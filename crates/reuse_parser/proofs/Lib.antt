@@ -1,5 +1,12 @@
+pub mod AheadOf
+pub mod Adding
+pub mod Found
 pub mod Loops
 pub mod Marks
+pub mod Moved
 pub mod Single
 pub mod Pairs
+pub mod Reused
 pub mod Sources
+pub mod Stretch
+pub mod Within

@@ -39,20 +39,20 @@ self_is k = grind arith
 is_true : (b : Bool) → b ≡ true → IsTrue b
 is_true b h = subst (λ x. IsTrue x) (sym h) refl
 
-above_kept : (a b : Around) (kind k : ℕ) → IsWithin a kind b → IsTrue (has_kind a.above k) → IsTrue (has_kind b.above k)
+pub above_kept : (a b : Around) (kind k : ℕ) → IsWithin a kind b → IsTrue (has_kind a.above k) → IsTrue (has_kind b.above k)
 above_kept a b kind k w t = is_true (has_kind b.above k) (w.above k ∙ or_true (has_kind a.above k) (k == kind) t)
 
-kind_above : (a b : Around) (kind : ℕ) → IsWithin a kind b → IsTrue (has_kind b.above kind)
+pub kind_above : (a b : Around) (kind : ℕ) → IsWithin a kind b → IsTrue (has_kind b.above kind)
 kind_above a b kind w = is_true (has_kind b.above kind)
     (w.above kind ∙ ap (λ x. has_kind a.above kind || x) (self_is kind) ∙ or_self (has_kind a.above kind))
 
 -- the inside stands one level deeper
-stands_within : (a b : Around) (kind : ℕ) (its : Items) (at : Length) (ms : List Mark) → IsWithin a kind b
+pub stands_within : (a b : Around) (kind : ℕ) (its : Items) (at : Length) (ms : List Mark) → IsWithin a kind b
     → Stands b.limit b.level its at ms → Stands a.limit (a.level + 1) its at ms
 stands_within a b kind its at ms w stands =
     subst (λ n. Stands n (a.level + 1) its at ms) w.limit (subst (λ n. Stands b.limit n its at ms) w.level stands)
 
-none_in : (has : ℕ → Bool) (kinds : Kinds) (es : List Entry) → ((k : ℕ) → has k ≡ has_kind kinds k) → NoneBy has es
+pub none_in : (has : ℕ → Bool) (kinds : Kinds) (es : List Entry) → ((k : ℕ) → has k ≡ has_kind kinds k) → NoneBy has es
     → NoneIn kinds es
 none_in has kinds [] same none = tt
 none_in has kinds (e ∷ es) same none = (sym (same e.kind) ∙ none.0, none_in has kinds es same none.1)
@@ -75,7 +75,7 @@ opens : (a : Around) (m : Mark) (kind : ℕ) (rest : List Mark) → m.role ≡ O
 opens a m kind rest role = not_stopped a m rest (λ k. ap (λ r. role_has r k) role)
 
 -- ---- a pair with its closer
-pair_long : (m c : Mark) (inside : Length) (to : Length) → m.at.col < m.to → c.at.col < c.to
+pub pair_long : (m c : Mark) (inside : Length) (to : Length) → m.at.col < m.to → c.at.col < c.to
     → plus (end_of m) inside ≡ to
     → to ≡ start_of c → plus (start_of m) (plus (plus (size_of m) inside) (size_of c)) ≡ end_of c
 pair_long m c inside to some c_some long at =
@@ -84,12 +84,12 @@ pair_long m c inside to some c_some long at =
     ∙ ap (λ p. plus p inside) (size_ends m some) ∙ long ∙ at)
     ∙ size_ends c c_some
 
-record Closed (c : Mark) (kind : ℕ) : Type 0 where
+pub record Closed (c : Mark) (kind : ℕ) : Type 0 where
   pub kinds : Kinds
   pub role : c.role ≡ Closer kinds
   pub takes : has_kind kinds kind ≡ true
 
-closed_by : (c : Mark) (kind : ℕ) (r : Role) → c.role ≡ r → role_has r kind ≡ true → Closed c kind
+pub closed_by : (c : Mark) (kind : ℕ) (r : Role) → c.role ≡ r → role_has r kind ≡ true → Closed c kind
 closed_by c kind (Opener k) is has = cc
 closed_by c kind (Closer kinds) is has = record { kinds = kinds; role = is; takes = has }
 

@@ -32,7 +32,7 @@ use Rattle.std.proofs.lemmas.List.{length-append}
 use Rattle.tree_defs.specs.Ends.{fits, in_lines}
 use Rattle.reuse_parser.specs.Whole.{StandsFor}
 
-abbrev first_place : Pos
+abbrev pub first_place : Pos
 first_place = record { line = 0; col = 0 }
 
 le_true : (a b : ℕ) → a ≤ b → nat_le a b ≡ true
@@ -172,7 +172,7 @@ line_holds lens n from len (m ∷ ms) last rest there rise more =
     in_line : (col : ℕ) → col ≤ len → in_lines lens (record { lines = n; cols = col }) ≡ true
     in_line col up_to = rw there (le_true col len up_to)
 
-lines_hold : (lens : List ℕ) (n : ℕ) (lines : List MarkedLine) (last : Length) (before : List ℕ) → AreMarked lines
+pub lines_hold : (lens : List ℕ) (n : ℕ) (lines : List MarkedLine) (last : Length) (before : List ℕ) → AreMarked lines
     → lens ≡ before ++ map (λ l. l.length) lines → length before ≡ n → in_lines lens last ≡ true
     → HoldsAt (in_lines lens) last (marks_of_lines n (map (λ l. l.marks) lines))
 lines_hold lens n [] last before are is at ends = ends
@@ -183,7 +183,7 @@ lines_hold lens n (line ∷ lines) last before are is at ends =
     (is ∙ sym (append_assoc before (line.length ∷ []) (map (λ l. l.length) lines)))
     (let l = length-append before (line.length ∷ []) in omega (arith, at, l)) ends)
 
-last_line : (before : List ℕ) (line : MarkedLine) (lines : List MarkedLine) (n : ℕ) → n ≡ length before + length lines
+pub last_line : (before : List ℕ) (line : MarkedLine) (lines : List MarkedLine) (n : ℕ) → n ≡ length before + length lines
     → slice_get (before ++ map (λ l. l.length) (line ∷ lines)) n ≡ Some (last_length (line ∷ lines))
 last_line before line [] n is = get_there before line.length [] n (omega (arith, is))
 last_line before line (next ∷ lines) n is =
@@ -191,7 +191,7 @@ last_line before line (next ∷ lines) n is =
     ∙ last_line (before ++ line.length ∷ []) next lines n
     (let l = length-append before (line.length ∷ []) in omega (arith, is, l))
 
-end_holds : (lines : List MarkedLine) (last : Length) → 0 < length lines → place last ≡ text_end lines
+pub end_holds : (lines : List MarkedLine) (last : Length) → 0 < length lines → place last ≡ text_end lines
     → in_lines (map (λ l. l.length) lines) last ≡ true
 end_holds [] last some is = absurd (omega (arith, some))
 end_holds (line ∷ lines) last some is =

@@ -1,2 +1,4 @@
+pub mod AddLaws
 pub mod Parsing
+pub mod Reusing
 pub mod Whole

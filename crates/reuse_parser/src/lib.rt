@@ -2,8 +2,10 @@
 #![tactic(auto)]
 
 mod gather;
+pub mod laws;
 mod list;
 mod place;
 pub mod whole;
 
+pub use laws::{new_nodes_add, old_nodes_add};
 pub use whole::parse;
