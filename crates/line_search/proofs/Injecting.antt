@@ -3,7 +3,7 @@ use Rattle.std.proofs.Common.{◌≡◌, ℕ, zero, suc, ◌+◌, ◌<◌, ◌�
 use Rattle.std.proofs.Common.{sym, ◌∙◌, arith, subst, cond}
 use Rattle.std.specs.Prelude.{All, Bool, true, false, nat_lt, ◌==◌, ◌&&◌, ◌||◌, Option, Some, None, option_map, slice_get}
 use Rattle.std.specs.Prelude.{unwrap_or, IsTrue}
-use Rattle.std.proofs.lemmas.List.{drop_more, append_assoc}
+use Rattle.std.proofs.lemmas.List.{drop_more}
 use Rattle.std.proofs.lemmas.List.Elements.{All-nil, All-cons, All-get_or, All-weaker, All-head, All-tail}
 use Rattle.std.proofs.lemmas.Option.{slice_get-map, slice_get-get_or, unwrap_or-slice_get}
 use Rattle.pattern_defs.specs.Attempt.{Ran, Hit, Miss, Spent, Captures}
@@ -28,7 +28,7 @@ use Rattle.line_search.specs.Machines.{IsOf}
 use Rattle.line_search.specs.Prepared.{HasInjections}
 use Rattle.line_search.specs.Finds.{found_of as found_in}
 use Rattle.line_search.specs.Lists.{early}
-use Rattle.line_search.specs.Choices.{HaveRoom, first_of, first_place}
+use Rattle.line_search.specs.Choices.{first_of, first_place}
 use Rattle.line_search.specs.Prepared.{Prepared, prepared, all_prepared, group_choices, IsPrepared, ArePrepared, HasRoomFor}
 use Rattle.line_search.specs.Prepared.{holds_of, holding, NoneHolds, none_prepared, prepared_at, found_by_numbers, scan_where}
 use Rattle.line_search.specs.Prepared.{found_by_prepared}
@@ -36,12 +36,11 @@ use Rattle.line_search.specs.Asking.{prepared_of, IsReady, AreReady}
 use Rattle.rule_table.specs.declared.injection.Injection.{Injection}
 use Rattle.rule_table.specs.Views.{Table, listed_of}
 use Rattle.line_search.specs.declared.injected.Step.TheVariants as step
-use Rattle.line_search.specs.Bests.{kept_at, kept_of, step_by, beaten, IsMatch, IsFound, IsBest, IfSomeBest, IfNoBest, IfNone, IfStep, IfNext}
+use Rattle.line_search.specs.Bests.{kept_at, kept_of, step_by, beaten, IsFound, IsBest, IfSomeBest, IfNoBest, IfNone, IfStep, IfNext}
 use Rattle.line_search.specs.declared.injected.Bests.{Bests}
 use Rattle.line_search.specs.declared.injected.Bests.TheVariants as bests
 use Rattle.line_search.specs.Bests.{starts_earlier, wins_over}
 use Rattle.line_search.proofs.FrameLists.{rules_early}
-use Rattle.line_search.proofs.Injections.{keeps_none}
 use Rattle.line_search.proofs.Scans.{scan-again}
 use Rattle.line_search.proofs.Tables.{early_room}
 

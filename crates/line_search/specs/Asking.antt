@@ -1,5 +1,5 @@
 -- How injections stand ready in code, and which of them hold of scopes that were asked for.
-use Rattle.std.specs.Prelude.{◌≡◌, ℕ, ◌<◌, List, length, map, All, IfSome}
+use Rattle.std.specs.Prelude.{◌≡◌, ◌<◌, List, length, map, All, IfSome}
 use Rattle.std.specs.Rc.{rc_value}
 use Rattle.scope_defs.specs.SelectorSyntax.{entries_of, entry_at}
 use Rattle.selectors.specs.Needs.{Needs}

@@ -61,7 +61,10 @@ mod tests {
     fn an_entry_needs_the_name_that_it_begins_with(rt: HostRuntime) {
         let key = Some(key_of("source.css".as_bytes()));
         assert_eq!(rt; needed_key(rt.alloc(), "source.css"), key);
-        assert_eq!(rt; needed_key(rt.alloc(), "source.css.x - (comment | string)"), key);
+        assert_eq!(rt;
+            needed_key(rt.alloc(), "source.css.x - (comment | string)"),
+            key
+        );
         assert_eq!(rt; needed_key(rt.alloc(), "L:source.css meta.x"), key);
         assert_eq!(rt; needed_key(rt.alloc(), "source"), None);
         assert_eq!(rt; needed_key(rt.alloc(), "source.css | source.js"), None);

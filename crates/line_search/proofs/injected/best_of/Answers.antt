@@ -1,4 +1,4 @@
-use Rattle.std.proofs.Common.{◌≡◌, ◌+◌, length, map, drop, ap, sym, ◌∙◌, arith}
+use Rattle.std.proofs.Common.{◌+◌, map, drop, sym, ◌∙◌}
 use Rattle.line_defs.specs.Search.{Sight}
 use Rattle.line_search.specs.Prepared.{found_by_numbers}
 use Rattle.line_search.specs.Asking.{prepared_of}

@@ -1,7 +1,5 @@
-use Rattle.std.proofs.Common.{◌≡◌, length, map, ap, sym, ◌∙◌, refl, arith}
-use Rattle.std.proofs.lemmas.List.{length-map}
-use Rattle.line_defs.specs.Search.{Sight}
-use Rattle.line_search.specs.Finds.{found_of, owner_of}
+use Rattle.std.proofs.Common.{map, ap, sym, ◌∙◌}
+use Rattle.line_search.specs.Finds.{found_of}
 use Rattle.line_search.specs.Asking.{prepared_of}
 use Rattle.line_search.proofs.Injecting.{step-nothing, step-spent}
 use Rattle.line_search.proofs.injected.weigh.Goals as goal

@@ -1,17 +1,16 @@
-use Rattle.std.proofs.Common.{◌≡◌, ◌≤◌, List, [], ◌∙◌, ap, sym, subst, length, refl}
+use Rattle.std.proofs.Common.{◌≡◌, List, [], ◌∙◌, ap, sym, subst, length, refl}
 use Rattle.std.specs.Prelude.{true, false, Some, None}
 use Rattle.std.proofs.lemmas.Result.{IfOk-weaker}
 use Rattle.std.specs.Rc.{rc_value}
 use Rattle.scope_defs.specs.Frames.{Frame}
 use Rattle.rule_table.specs.Views.{Table}
-use Rattle.line_defs.specs.Machine.{Machine}
-use Rattle.line_defs.specs.Search.{Sight, At, choices, scan}
+use Rattle.line_defs.specs.Search.{Sight, choices, scan}
 use Rattle.line_defs.specs.Injections.{Keeps, with_injections}
 use Rattle.line_search.specs.declared.injected.Best.{Best}
 use Rattle.line_search.specs.declared.find.Find.TheVariants as find
 use Rattle.line_search.specs.Finds.{found_of, owner_of}
 use Rattle.line_search.specs.Machines.{IsOf}
-use Rattle.line_search.specs.Prepared.{Prepared, HasInjections, all_prepared, prepared_at, found_by_prepared, ArePrepared}
+use Rattle.line_search.specs.Prepared.{Prepared, all_prepared, prepared_at, found_by_prepared, ArePrepared}
 use Rattle.line_search.specs.Bests.{injected_of, kept_of, IsBest, IfBest, IfSomeBest, wins_over}
 use Rattle.line_search.proofs.Injecting.{search-none, search-spent, search-best, best-again, again-same, part-weaker}
 use Rattle.line_search.proofs.Injecting.{not-true, hit-same}
