@@ -1,7 +1,7 @@
 use scope_names::Scopes;
 use script_words::{
-    Answer, BracketRow, Command, CommandRefusal, GuideRow, GuideRows, MarkAt, PairRow, PairRows,
-    Question, Refusal, Reply, Rows, Twin, TypedToken, TypedTokens,
+    Answer, BracketRow, Command, CommandRefusal, GuideRow, GuideRows, Made, MarkAt, PairRow,
+    PairRows, Question, Refusal, Reply, Rows, Twin, TypedToken, TypedTokens,
 };
 use std::alloc::{AllocError, Global};
 use std::test::Fail;
@@ -280,6 +280,13 @@ fn replies_to_commands_are_written_letter_by_letter(rt: HostRuntime) -> Result<(
     assert!(rt; is_written(alloc, &Reply::Edited(1), "{\"edited\":1}\n")?);
     assert!(rt; is_written(alloc, &Reply::Edited(262144), "{\"edited\":262144}\n")?);
     assert!(rt; is_written(alloc, &Reply::Turned, "{\"turned\":true}\n")?);
+    let made = Reply::Made(Made {
+        lines: 100_025,
+        rows: 61,
+        bad: 0,
+        deepest: 301,
+    });
+    assert!(rt; is_written(alloc, &made, "{\"made\":[100025,61,0,301]}\n")?);
     Ok(())
 }
 
