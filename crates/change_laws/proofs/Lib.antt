@@ -1,0 +1,5 @@
+pub mod Chains
+pub mod Order
+pub mod PlaceLaws
+pub mod Placing
+pub mod Rooms

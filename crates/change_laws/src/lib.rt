@@ -1,0 +1,2 @@
+//! Laws of changes of a text.
+#![tactic(auto)]

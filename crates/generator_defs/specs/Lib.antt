@@ -1,0 +1,3 @@
+pub mod GeneratedText
+pub mod Summary
+pub mod GeneratorExamples
