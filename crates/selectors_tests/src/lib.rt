@@ -233,13 +233,19 @@ mod tests {
                 text.push(')')?;
             }
             assert_eq!(rt; refused(rt.alloc(), text.as_str()), at, "{count}");
+            let is_read = tells(rt.alloc(), text.as_str(), "a", "b");
+            assert_eq!(rt; is_read, at.is_none(), "{count}");
         }
-        let mut text = String::new(rt.alloc());
-        for _ in 0..101 {
-            text.push('-')?;
+        for (count, at) in [(100, None), (101, Some(101))] {
+            let mut text = String::new(rt.alloc());
+            for _ in 0..count {
+                text.push('-')?;
+            }
+            text.push('a')?;
+            assert_eq!(rt; refused(rt.alloc(), text.as_str()), at, "{count}");
+            let is_read = tells(rt.alloc(), text.as_str(), "a", "b");
+            assert_eq!(rt; is_read, at.is_none(), "{count}");
         }
-        text.push('a')?;
-        assert_eq!(rt; refused(rt.alloc(), text.as_str()), Some(101));
         Ok(())
     }
 
