@@ -1,4 +1,5 @@
 pub mod Chains
+pub mod EdgeLaws
 pub mod Order
 pub mod PlaceLaws
 pub mod Placing

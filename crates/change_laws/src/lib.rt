@@ -1,6 +1,7 @@
 //! Laws of changes of a text: of places in both texts, and of the marks that no change meets.
 #![tactic(auto)]
 
+ghost use Rattle.change_laws.specs.EdgeLaws.{EndLaw, NewStartLaw, ForthLaw};
 ghost use Rattle.change_laws.specs.PlaceLaws.{ImagesRise, OriginsRise, RoomLaw, OldMarkLaw, NewMarkLaw, StretchLaw};
 
 /// Places keep their order over changes, from the old text to the new one and back.
@@ -21,4 +22,12 @@ pub fn texts_go_alike_up_to_the_next_change()
 /// the same marks that are clear of all changes.
 pub fn marks_are_the_same_up_to_the_next_change()
     ensures { StretchLaw }
+{}
+
+/// The ends of a change are images of each other; the start of a change that puts something in is its old start; and a
+/// place that has an old one is the image of that, unless a change starts there.
+pub fn edges_of_changes_lead_back()
+    ensures ends { EndLaw }
+    ensures starts { NewStartLaw }
+    ensures forth { ForthLaw }
 {}
