@@ -12,7 +12,8 @@ use Rattle.session_defs.specs.declared.limits.TheConstants.{USUAL_NESTING, LEAST
 use Rattle.session_defs.specs.declared.limits.TheConstants.{USUAL_BUDGET, LEAST_BUDGET, MOST_BUDGET}
 use Rattle.session_defs.specs.declared.limits.TheConstants.{USUAL_LONG, LEAST_LONG, MOST_LONG}
 use Rattle.session_defs.specs.declared.limits.TheConstants.{USUAL_TAB, LEAST_TAB, WIDEST_TAB}
-use Rattle.session_defs.specs.Words.{Request, Options, no_options, asked_for, request_of, request_with, with_option}
+use Rattle.session_defs.specs.Words.{Subject, Request, Options, no_options, asked_for, request_of, request_with, with_option}
+use Rattle.session_defs.specs.Words.{subject_of}
 use Rattle.session_defs.specs.Words.{is_name_or_none, is_number, is_plain, is_within, limits_in, number_or, value_of}
 use Rattle.session_defs.specs.Words.{parted, plain_words, said, with_text, with_value, with_value_at_last}
 
@@ -160,29 +161,29 @@ limits_tab given limits e =
     (number_or USUAL_LONG LEAST_LONG MOST_LONG given.long)
     (number_or USUAL_TAB LEAST_TAB WIDEST_TAB given.tab) limits e)
 
-abbrev request_by : List ℕ → Options → Bool → Option Limits → Option Request
-request_by name given fits limits =
-    if fits then option_map (λ limits. record { text = name; grammar = given.grammar; brackets = given.brackets; limits = limits }) limits
+abbrev request_by : Subject → Options → Bool → Option Limits → Option Request
+request_by subject given fits limits =
+    if fits then option_map (λ limits. record { subject = subject; grammar = given.grammar; brackets = given.brackets; limits = limits }) limits
     else None
 
-limits_of_request : (name : List ℕ) (given : Options) (fits : Bool) (limits : Option Limits) (r : Request)
-    → request_by name given fits limits ≡ Some r → limits ≡ Some r.limits
-limits_of_request name given false limits r e = cc
-limits_of_request name given true None r e = cc
-limits_of_request name given true (Some limits) r e = ap (option_map (λ (r : Request). r.limits)) e
+limits_of_request : (subject : Subject) (given : Options) (fits : Bool) (limits : Option Limits) (r : Request)
+    → request_by subject given fits limits ≡ Some r → limits ≡ Some r.limits
+limits_of_request subject given false limits r e = cc
+limits_of_request subject given true None r e = cc
+limits_of_request subject given true (Some limits) r e = ap (option_map (λ (r : Request). r.limits)) e
 
-with_name : (name : Option (List ℕ)) (given : Options) (r : Request)
-    → option_and_then (λ name. request_with name given) name ≡ Some r
+with_subject : (subject : Option Subject) (given : Options) (r : Request)
+    → option_and_then (λ subject. request_with subject given) subject ≡ Some r
     → (LEAST_TAB ≤ r.limits.tab) × (r.limits.tab ≤ WIDEST_TAB)
-with_name None given r e = cc
-with_name (Some name) given r e =
-    limits_tab given r.limits (limits_of_request name given
-    (nat_lt 0 (length name) && (is_name_or_none given.grammar && is_name_or_none given.brackets)) (limits_in given) r e)
+with_subject None given r e = cc
+with_subject (Some subject) given r e =
+    limits_tab given r.limits (limits_of_request subject given
+    (is_name_or_none given.grammar && is_name_or_none given.brackets) (limits_in given) r e)
 
 behind_options : (given : Option Options) (r : Request) → option_and_then asked_for given ≡ Some r
     → (LEAST_TAB ≤ r.limits.tab) × (r.limits.tab ≤ WIDEST_TAB)
 behind_options None r e = cc
-behind_options (Some given) r e = with_name given.text given r e
+behind_options (Some given) r e = with_subject (subject_of given.text given.make) given r e
 
 -- a tab has as many columns as it may have
 pub request_tab : (words : List (List ℕ)) (r : Request) → request_of words ≡ Some r

@@ -5,4 +5,5 @@ pub mod Run
 pub mod Serving
 pub mod Sessions
 pub mod Statuses
+pub mod Subjects
 pub mod Texts
