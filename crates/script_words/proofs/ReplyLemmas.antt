@@ -75,3 +75,4 @@ has_float-reply (reply.Edited lines) = refl
 has_float-reply reply.Turned = refl
 has_float-reply (reply.Refused why) = refl
 has_float-reply (reply.Answered a) = has_float-answer a
+has_float-reply (reply.Made m) = refl

@@ -15,6 +15,7 @@ use Rattle.answer_defs.specs.TokenAnswers.{AnsweredToken}
 use Rattle.answer_defs.specs.declared.answer.Answer.{Answer}
 use Rattle.answer_defs.specs.declared.answer.Answer.TheVariants as answer
 use Rattle.scope_defs.specs.Scopes.{Scopes}
+use Rattle.generator_defs.specs.declared.Made.{Made}
 use Rattle.script_words.specs.declared.refusal.Refusal.{Refusal}
 use Rattle.script_words.specs.declared.refusal.Refusal.TheVariants as refusal
 use Rattle.script_words.specs.declared.reply.Reply.{Reply}
@@ -103,12 +104,17 @@ answer_data (answer.Around twin) = only (codes "around") (or_null twin_data twin
 answer_data (answer.Jump place) = only (codes "jump") (or_null place_data place)
 answer_data (answer.Level level) = only (codes "level") (whole_number level)
 
+-- lines, rows, rows without partner, and one more than the greatest level
+abbrev pub made_data : Made → Data
+made_data m = numbers_data (m.lines ∷ m.rows ∷ m.bad ∷ m.deepest ∷ [])
+
 abbrev pub reply_data : Reply → Data
 reply_data (reply.Opened lines unread) = object (member (codes "opened") (whole_number lines) (member (codes "unread") (whole_number unread) no_members))
 reply_data (reply.Edited lines) = only (codes "edited") (whole_number lines)
 reply_data reply.Turned = only (codes "turned") (boolean true)
 reply_data (reply.Refused why) = only (codes "refused") (string (word_of why))
 reply_data (reply.Answered a) = answer_data a
+reply_data (reply.Made m) = only (codes "made") (made_data m)
 
 -- the reply's line, with its LF
 abbrev pub reply_text : Reply → List ℕ

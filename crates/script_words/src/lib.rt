@@ -10,6 +10,7 @@ pub use answer_defs::{
     TypedToken, TypedTokens,
 };
 pub use command::{Command, CommandRefusal};
+pub use generator_defs::Made;
 pub use line_text::{Edit, Edits};
 pub use refusal::Refusal;
 pub use reply::Reply;

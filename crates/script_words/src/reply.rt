@@ -1,16 +1,17 @@
 ghost use Rattle.std.specs.Prelude.{◌≡◌, map, IfOk, encode_utf8_all};
 ghost use Rattle.serde_json.specs.Data.{array, string, boolean, object, member, no_members};
 ghost use Rattle.serde_json.specs.View.{view, items_of};
-ghost use Rattle.script_words.specs.ReplyText.{answer_data, chars_data, guide_data, guides_data, mark_data, or_null, pair_data, pairs_data, place_data, reply_data, reply_text, row_data, rows_data, scopes_data, span_data, token_data, tokens_data, twin_data, word_of};
+ghost use Rattle.script_words.specs.ReplyText.{answer_data, chars_data, guide_data, guides_data, made_data, mark_data, or_null, pair_data, pairs_data, place_data, reply_data, reply_text, row_data, rows_data, scopes_data, span_data, token_data, tokens_data, twin_data, word_of};
 
 use crate::refusal::Refusal;
 use answer_defs::{Answer, BracketRow, GuideRow, MarkAt, PairRow, Twin, TypedToken};
+use generator_defs::Made;
 use scope_names::Scopes;
 use serde_json::{Value, json};
 use std::alloc::{AllocError, Global};
 use text_pos::{Bytes, Pos, Span};
 
-/// What is written for a script line, and before the first. The replies are this project's own.
+/// What is written for a script line and before the first, and of a text in passing. The replies are this project's own.
 #[derive(Drop)]
 pub enum Reply {
     /// How many lines the text has, and how many patterns of the grammar weren't read.
@@ -20,6 +21,8 @@ pub enum Reply {
     Turned,
     Refused(Refusal),
     Answered(Answer),
+    /// What is told of a generated text.
+    Made(Made),
 }
 
 impl Reply {
@@ -44,6 +47,10 @@ impl Reply {
             Reply::Turned => json!(in alloc; {"turned": true}),
             Reply::Refused(why) => json!(in alloc; {"refused": word_of(*why)}),
             Reply::Answered(answer) => answer_value(alloc, answer),
+            Reply::Made(made) => {
+                let numbers = made_value(alloc, made)?;
+                json!(in alloc; {"made": numbers})
+            }
         }
     }
 }
@@ -63,6 +70,12 @@ fn word_of(why: Refusal) -> &'static str
         Refusal::Line => "line",
         Refusal::Place => "place",
     }
+}
+
+fn made_value(alloc: Global, made: &Made) -> Result<Value, AllocError>
+    ensures { IfOk result (λ v. view v ≡ made_data made.now) }
+{
+    json!(in alloc; [made.lines, made.rows, made.bad, made.deepest])
 }
 
 fn answer_value(alloc: Global, answer: &Answer) -> Result<Value, AllocError>
