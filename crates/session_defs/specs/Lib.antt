@@ -1,3 +1,5 @@
+pub mod MadeExamples
+pub mod MadeOutput
 pub mod OnLiterals
 pub mod Opening
 pub mod Output
