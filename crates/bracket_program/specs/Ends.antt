@@ -77,11 +77,14 @@ LeavesScript before after = (after.left ≡ before.left) × (after.reads ≡ bef
 -- how each status of a text that is made stands to the outside, where this is to be written: no script is read
 abbrev pub IsMadeEnd : Outside → Outside → (all : List ℕ) → Status → Type 0
 IsMadeEnd before after all status.Done =
-    (after.held ≡ appended before.held all) × (after.writes ≡ before.writes) × LeavesScript before after
+    (after.held ≡ appended before.held all) × (after.writes ≡ before.writes) × (after.left ≡ before.left)
+    × (after.reads ≡ before.reads)
 IsMadeEnd before after all status.WriteFault =
-    WritesFront before.held after.held all × (risen before.writes ≤ after.writes) × LeavesScript before after
+    WritesFront before.held after.held all × (risen before.writes ≤ after.writes) × (after.left ≡ before.left)
+    × (after.reads ≡ before.reads)
 IsMadeEnd before after all status.Memory =
-    WritesFront before.held after.held all × (after.writes ≡ before.writes) × LeavesScript before after
+    WritesFront before.held after.held all × (after.writes ≡ before.writes) × (after.left ≡ before.left)
+    × (after.reads ≡ before.reads)
 IsMadeEnd before after all _ = ⊥
 
 -- the same of either text

@@ -5,5 +5,4 @@ pub mod Run
 pub mod Serving
 pub mod Sessions
 pub mod Statuses
-pub mod Subjects
 pub mod Texts

@@ -1,5 +1,5 @@
 -- How the files that the words name are opened, and why they aren't.
-use Rattle.std.specs.Prelude.{◌≡◌, ◌≤◌, ℕ, List, Option, Some, None, option_and_then}
+use Rattle.std.specs.Prelude.{◌≡◌, ℕ, List, Option, Some, None, option_and_then}
 use Rattle.text_pos.specs.declared.limits.Limits.{Limits}
 use Rattle.pairing_defs.specs.declared.BracketText.{BracketText}
 use Rattle.piece_io.specs.Told.{Told}
@@ -7,7 +7,7 @@ use Rattle.line_machine.specs.Machines.{MachineState}
 use Rattle.document.specs.State.{State}
 use Rattle.session_defs.specs.declared.file_kind.FileKind.{FileKind}
 use Rattle.session_defs.specs.declared.file_kind.FileKind.TheVariants as kind
-use Rattle.generator_defs.specs.declared.TheConstants.{MOST_GENERATED_LINES}
+use Rattle.generator_defs.specs.GeneratedText.{generated_text}
 use Rattle.session_defs.specs.Words.{Subject, text_file, generated, Request}
 use Rattle.session_defs.specs.Opening.{NamedFile, Inputs, text_name, files_of, text_at_first, grammar_of_file, texts_of, session_of}
 use Rattle.bracket_program.specs.Sessions.{machine_for, session_in}
@@ -18,10 +18,10 @@ use Rattle.bracket_program.specs.declared.status.Status.TheVariants as status
 abbrev pub file : FileKind → List ℕ → NamedFile
 file kind name = record { kind = kind; name = name }
 
--- a text that is made has as many lines as it may have
-abbrev pub IsInRange : Subject → Type 0
-IsInRange (text_file name) = Unit {0}
-IsInRange (generated lines) = (1 ≤ lines) × (lines ≤ MOST_GENERATED_LINES)
+-- a text that is made is this one, before any edit
+abbrev pub IsMadeText : Subject → List ℕ → Type 0
+IsMadeText (text_file name) text = Unit {0}
+IsMadeText (generated lines) text = text ≡ generated_text lines
 
 -- a text is that of the file's bytes, or the one that is made
 pub record OpensText (contents : List ℕ → Told) (subject : Subject) (text : List ℕ) : Type 0 where

@@ -132,7 +132,7 @@ returns-clause-ends g c =
     let serving = c.loop-taken.invariant.serving in
     let full : c.loop-taken.taken ≡ most_script_bytes =
     omega (arith, c.loop-taken.invariant.few, c.loop-taken-test.false) in
-    (serving-cut serving c.loop-taken.invariant.few refl refl refl, serving.count ∙ full, serving.reads_stand)
+    (serving-cut serving refl refl refl, serving.count ∙ full, serving.reads_stand)
 
 pub returns-in_err-cutter-clause-ends : goal.returns-in_err-cutter-clause-ends
 returns-in_err-cutter-clause-ends g c =

@@ -1,6 +1,6 @@
-ghost use Rattle.std.specs.Prelude.{◌≡◌, ◌≤◌, ℕ, map, option_map, string_bytes, Some, None, if◌then◌else◌};
+ghost use Rattle.std.specs.Prelude.{◌≡◌, ◌≤◌, ℕ, map, option_map, string_bytes, Some, None, IfSome, if◌then◌else◌};
 ghost use Rattle.session_defs.specs.Words.{asked_for, request_of, request_with, is_plain, is_digit, is_number, is_name_or_none, is_within, limits_in, no_options, number_or, once, parted, plain_words, said, subject_of, value_of, with_option, with_text};
-ghost use Rattle.bracket_program.specs.Subjects.{subject_in};
+ghost use Rattle.command_line.specs.Subjects.{IsInRange, subject_in};
 
 use generator_defs::MOST_GENERATED_LINES;
 use session_defs::{
@@ -31,7 +31,7 @@ pub struct Request<'a> {
 impl<'a> Model for Request<'a> {
     ghost use Rattle.std.specs.Prelude.{option_map};
     ghost use Rattle.session_defs.specs.Words.{Request as Asked};
-    ghost use Rattle.bracket_program.specs.Subjects.{subject_in};
+    ghost use Rattle.command_line.specs.Subjects.{subject_in};
 
     ghost Value = { Asked };
 
@@ -74,8 +74,18 @@ impl<'a> Model for Options<'a> {
     } };
 }
 
-/// What the words ask for, of which the first is the program's name. None where they are no command line.
+/// What the words ask for, of which the first is the program's name. None where they are no command line. Its numbers are
+/// in their ranges.
 pub fn read_words(words: &[String]) -> Option<Request<'_>>
+    ensures request { result ≡ request_of (map string_bytes words.now) }
+    ensures some_columns { IfSome result (λ r. LEAST_TAB ≤ r.limits.tab) }
+    ensures few_columns { IfSome result (λ r. r.limits.tab ≤ WIDEST_TAB) }
+    ensures in_range { IfSome result (λ r. IsInRange r.subject) }
+{
+    request_of(words)
+}
+
+fn request_of(words: &[String]) -> Option<Request<'_>>
     ensures { result ≡ request_of (map string_bytes words.now) }
 {
     match words {
@@ -241,7 +251,7 @@ fn generated_of<'a>(lines: &str) -> Option<Subject<'a>>
 
 /// What the options ask for, of this text.
 fn request_with<'a>(subject: Subject<'a>, given: Options<'a>) -> Option<Request<'a>>
-    ensures { result ≡ request_with (subject_in subject) given.entry }
+    ensures { result ≡ request_with (subject_in subject.entry) given.entry }
 {
     if !is_name_or_none(given.grammar) || !is_name_or_none(given.brackets) {
         return None;
