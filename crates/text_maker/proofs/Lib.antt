@@ -1,0 +1,3 @@
+pub mod EditTexts
+pub mod GeneratedTexts
+pub mod MadeEdits

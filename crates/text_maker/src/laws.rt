@@ -1,0 +1,8 @@
+ghost use Rattle.text_maker.specs.EditLaws.{MadeEditsAreAccepted, TextsStaySmall};
+
+/// Each edit of the generator is in range of the text at hand, and what it makes is within the limits of a text: so only
+/// for want of memory it isn't made.
+pub fn made_edits_are_accepted()
+    ensures accepted { MadeEditsAreAccepted }
+    ensures small { TextsStaySmall }
+{}
