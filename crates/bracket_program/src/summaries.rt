@@ -7,7 +7,7 @@ ghost use Rattle.bracket_program.specs.Sessions.{settings_in};
 
 use crate::reply_lines::write_reply;
 use crate::status::Status;
-use document::Document;
+use document::{Document, summary_of};
 use generator_defs::{EDITS_OF_A_SUMMARY, GENERATED_EDITS, MOST_GENERATED_LINES};
 use line_machine::Machine;
 use line_text::{EditRefusal, Edits};
@@ -57,7 +57,9 @@ fn write_summary<K: Sink>(
     ensures front { OnErr result (WritesFront (K.held sink.old) (K.held sink.new) (summary_line (settings_in document.old) document.old.text)) }
     ensures ends { IfErr result (IsReplyEnd (K.faults sink.old) (K.faults sink.new)) }
 {
-    write_reply(alloc, sink, &Reply::Turned)?;
+    let rows = document.rows(alloc)?;
+    let made = summary_of(&rows, document.text().lines());
+    write_reply(alloc, sink, &Reply::Made(made))?;
     Ok(())
 }
 
