@@ -1,4 +1,4 @@
-ghost use Rattle.std.specs.Prelude.{◌≡◌, ◌<◌, ◌≤◌, [], None, slice_index_or, IfOk, IfErr, OnOk, OnErr};
+ghost use Rattle.std.specs.Prelude.{◌≡◌, ◌<◌, ◌≤◌, [], false, None, All, length, slice_index_or, IfOk, IfErr, OnOk, OnErr};
 ghost use Rattle.text_defs.specs.Text.{line_count};
 ghost use Rattle.text_defs.specs.Batch.{batch_refusal, edited};
 ghost use Rattle.line_text.specs.BatchRefusals.{HasCause};
@@ -6,7 +6,7 @@ ghost use Rattle.answer_defs.specs.Answers.{question_refusal};
 ghost use Rattle.answer_defs.specs.TokenAnswers.{tokens_in};
 ghost use Rattle.document_defs.specs.TextRows.{rows_of, tokens_of};
 ghost use Rattle.document_defs.specs.DocumentAnswers.{answer_of};
-ghost use Rattle.document.specs.AskRefusals.{HasAskCause};
+ghost use Rattle.document.specs.AskRefusals.{HasAskCause, is_memory};
 ghost use Rattle.document.specs.Settings.{settings_by};
 
 use crate::answers::{answer_of_rows, line_chars, typed_tokens};
@@ -105,12 +105,14 @@ impl<R: LineRuns + Drop> Document<R> {
     }
 
     /// The answer to a question. The lines are run and the text is paired anew for it, as far as it takes that. What gives
-    /// the tokens tells the same afterwards; how many runs it has made may be more.
+    /// the tokens tells the same afterwards; how many runs it has made may be more. A question that has no answer runs no
+    /// line.
     pub fn ask(&mut self, alloc: Global, question: &Question) -> Result<Answer, AskRefusal>
         ensures answer { IfOk result (λ a.
             a ≡ answer_of (settings_by (R.told self.old.machine) self.old.texts self.old.limits) self.old.text question.now) }
         ensures answered { OnOk result (question_refusal self.old.text question.now ≡ None) }
         ensures refused { IfErr result (HasAskCause (question_refusal self.old.text question.now)) }
+        ensures unchanged { IfErr result (λ why. is_memory why ≡ false → self.new ≡ self.old) }
         ensures text { self.new.text ≡ self.old.text }
         ensures told { R.told self.new.machine ≡ R.told self.old.machine }
         ensures texts { self.new.texts ≡ self.old.texts }
@@ -123,6 +125,20 @@ impl<R: LineRuns + Drop> Document<R> {
                 .answer::<Brand>(alloc, question, Blank::new(1))
                 .map_err(AskRefusal::Memory),
         }
+    }
+
+    /// The rows of the text. The lines are run and the text is paired anew for them. What gives the tokens tells the same
+    /// afterwards; how many runs it has made may be more.
+    pub fn rows(&mut self, alloc: Global) -> Result<Paired, AllocError>
+        ensures rows { IfOk result (λ rows.
+            rows ≡ rows_of (settings_by (R.told self.old.machine) self.old.texts self.old.limits) self.old.text) }
+        ensures levels { IfOk result (λ rows. All (λ row. row.level < length rows) rows) }
+        ensures text { self.new.text ≡ self.old.text }
+        ensures told { R.told self.new.machine ≡ R.told self.old.machine }
+        ensures texts { self.new.texts ≡ self.old.texts }
+        ensures limits { self.new.limits ≡ self.old.limits }
+    {
+        self.paired_on::<Brand>(alloc, Blank::new(1))
     }
 
     /// The text as edited so far.
@@ -162,6 +178,21 @@ impl<R: LineRuns + Drop> Document<R> {
         };
         let marks = mark_lines(&over, &mut self.machine, &mut self.work, steps)?;
         Paired::of(alloc, &marks, marks.end(), self.limits.nesting)
+    }
+
+    fn paired_on<L: Ledger>(&mut self, alloc: Global, blank: Blank) -> Result<Paired, AllocError>
+        requires name { blank.name ≡ L.name }
+        requires parts { blank.parts ≡ L.parts }
+        requires some { 0 < blank.parts }
+        ensures rows { IfOk result (λ rows.
+            rows ≡ rows_of (settings_by (R.told self.old.machine) self.old.texts self.old.limits) self.old.text) }
+        ensures text { self.new.text ≡ self.old.text }
+        ensures told { R.told self.new.machine ≡ R.told self.old.machine }
+        ensures texts { self.new.texts ≡ self.old.texts }
+        ensures limits { self.new.limits ≡ self.old.limits }
+    {
+        let mut steps = Steps::<L>::begin(blank);
+        self.paired(alloc, &mut steps)
     }
 
     /// The tokens of line n.
