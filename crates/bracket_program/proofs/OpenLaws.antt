@@ -13,6 +13,7 @@ use Rattle.document.specs.State.{State}
 use Rattle.document.specs.Settings.{settings_by}
 use Rattle.session_defs.specs.declared.file_kind.FileKind.{FileKind}
 use Rattle.session_defs.specs.declared.file_kind.FileKind.TheVariants as kind
+use Rattle.generator_defs.specs.GeneratedText.{generated_text}
 use Rattle.session_defs.specs.Words.{Subject, text_file, generated, Request}
 use Rattle.session_defs.specs.Opening.{NamedFile, OpenGrammar, Session, named_if, text_name, files_of, is_accepted}
 use Rattle.session_defs.specs.Opening.{is_of_kind, text_at_first}
@@ -278,6 +279,10 @@ pub opened_text : {E : Type 0} (result : Result (List ℕ) E) (contents : List �
     → OnOk result (is_of_kind kind.Text bytes ≡ true) → IfOk result (OpensText contents (text_file name))
 opened_text (Ok text) contents name bytes r e a = opened_text_file contents name bytes r a text e
 opened_text (Err s) contents name bytes r e a = tt
+
+pub made_text_opens : (contents : List ℕ → Told) (lines : ℕ) (text : List ℕ) → text ≡ generated_text lines
+    → OpensText contents (generated lines) text
+made_text_opens contents lines text e = record { bytes = None; opens = tt; is = e }
 
 opened_machine : (contents : List ℕ → Told) (name bytes : List ℕ) (limits : Limits)
     → ReadsFile (contents name) bytes → is_of_kind kind.Grammar bytes ≡ true → (m : MachineState)

@@ -1,16 +1,17 @@
 -- The summaries of a text that is made, one after another.
-use Rattle.std.proofs.Common.{◌≡◌, ℕ, suc, ◌+◌, ◌-◌, ◌<◌, ◌≤◌, List, [], ◌∷◌, ◌++◌, map, refl, sym, ap, subst, ◌∙◌, arith}
+use Rattle.std.proofs.Common.{◌≡◌, ℕ, suc, ◌+◌, ◌-◌, ◌*◌, ◌<◌, ◌≤◌, List, [], ◌∷◌, ◌++◌, map, refl, sym, ap, subst, ◌∙◌, arith}
 use Rattle.std.specs.Prelude.{Option}
 use Rattle.std.specs.List.{concat, range_with_len}
 use Rattle.text_defs.specs.Batch.{edited}
 use Rattle.piece_io.specs.Told.{appended, risen}
 use Rattle.document_defs.specs.TextRows.{Settings}
+use Rattle.generator_defs.specs.declared.TheConstants.{EDITS_OF_A_SUMMARY}
 use Rattle.generator_defs.specs.GeneratedText.{generated_text, generated_edit, text_after}
 use Rattle.session_defs.specs.MadeOutput.{made_output, summaries, summary_count, summary_line, text_at_summary}
 use Rattle.bracket_program.specs.Ends.{Outside, WritesFront, WritesUpTo, IsReplyEnd, IsMadeEnd}
 use Rattle.bracket_program.specs.declared.status.Status.{Status}
 use Rattle.bracket_program.specs.declared.status.Status.TheVariants as status
-use Rattle.bracket_program.proofs.Replying.{none_written, more_written, front_of_more}
+use Rattle.bracket_program.proofs.Replying.{none_written, more_written, all_written, front_written, front_of_more}
 
 -- the summaries from this one on, so many of them
 abbrev pub summaries_from : Settings → (n from count : ℕ) → List ℕ
@@ -54,6 +55,26 @@ told_front settings same n k text before now after few s t w f =
     (subst (WritesUpTo before now (made_output settings n)) (next_summary settings n k few) w)
     (subst (WritesFront now after)
     (ap (λ o. summary_line o text) s ∙ ap (summary_line settings) t) f)
+
+-- all are written
+pub told_all : (settings : Settings) (n k : ℕ) (before now : Option (List ℕ)) → k ≡ 5 → Told settings n before now k
+    → now ≡ appended before (made_output settings n)
+told_all settings n k before now e w = all_written (subst (Told settings n before now) e w)
+
+-- writing stops between two
+pub told_stops : (settings : Settings) (n k : ℕ) (before now : Option (List ℕ)) → Told settings n before now k
+    → WritesFront before now (made_output settings n)
+told_stops settings n k before now w = front_written w
+
+-- the text behind one summary more
+pub next_text : (n k : ℕ) → text_after n (EDITS_OF_A_SUMMARY * k + EDITS_OF_A_SUMMARY) ≡ text_at_summary n (k + 1)
+next_text n k =
+    let same : EDITS_OF_A_SUMMARY * k + EDITS_OF_A_SUMMARY ≡ EDITS_OF_A_SUMMARY * (k + 1) = omega arith in
+    ap (text_after n) same
+
+-- an end at a reply, seen from before replies that left the count as it was
+pub end_from : (before now after : ℕ) (s : Status) → now ≡ before → IsReplyEnd now after s → IsReplyEnd before after s
+end_from before now after s e i = subst (λ n. IsReplyEnd n after s) e i
 
 -- the text at first, and behind one edit more
 pub text_at_first : (n : ℕ) → text_after n 0 ≡ generated_text n

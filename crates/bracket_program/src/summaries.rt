@@ -1,4 +1,5 @@
-ghost use Rattle.std.specs.Prelude.{◌≡◌, ◌≤◌, ◌<◌, ◌+◌, ◌*◌, IfErr, OnErr, OnOk};
+ghost use Rattle.std.specs.Prelude.{◌≡◌, ◌≤◌, ◌<◌, ◌+◌, None, IfErr, OnErr, OnOk};
+ghost use Rattle.line_text.specs.BatchRefusals.{HasCause};
 ghost use Rattle.piece_io.specs.Told.{appended};
 ghost use Rattle.generator_defs.specs.GeneratedText.{generated_text, text_after};
 ghost use Rattle.session_defs.specs.MadeOutput.{made_output, summary_line};
@@ -14,7 +15,7 @@ use line_text::{EditRefusal, Edits};
 use piece_io::Sink;
 use script_words::Reply;
 use std::alloc::{AllocError, Global};
-use text_maker::{made_edits_are_accepted, make_edit};
+use text_maker::make_edit;
 
 /// So many times edits are made between two summaries.
 const ROUNDS: u32 = GENERATED_EDITS / EDITS_OF_A_SUMMARY;
@@ -99,12 +100,23 @@ fn make_next(
     ensures text { OnOk result (document.new.text ≡ text_after lines (made + 1)) }
     ensures settings { settings_in document.new ≡ settings_in document.old }
 {
-    made_edits_are_accepted();
     let mut edits = Edits::new(alloc);
     edits.push(make_edit(alloc, lines, made + 1, document.text())?)?;
     match document.edit(alloc, edits.as_slice()) {
         Ok(_) => Ok(()),
-        Err(EditRefusal::Memory(error)) => Err(error),
-        Err(_) => unreachable!(),
+        Err(refusal) => Err(want_of_memory(refusal)),
+    }
+}
+
+/// A batch that has no cause to be refused is refused only for want of memory.
+fn want_of_memory(refusal: EditRefusal) -> AllocError
+    requires { HasCause None refusal }
+{
+    match refusal {
+        EditRefusal::Memory(error) => error,
+        EditRefusal::Range { .. } => unreachable!(),
+        EditRefusal::Order { .. } => unreachable!(),
+        EditRefusal::TooManyChars { .. } => unreachable!(),
+        EditRefusal::TooManyLines { .. } => unreachable!(),
     }
 }
