@@ -6,7 +6,7 @@ use Rattle.piece_io.specs.Told.{Told, appended, risen}
 use Rattle.session_defs.specs.declared.file_kind.FileKind.{FileKind}
 use Rattle.session_defs.specs.declared.file_kind.FileKind.TheVariants as kind
 use Rattle.session_defs.specs.Words.{Subject, text_file, generated, Request}
-use Rattle.session_defs.specs.Opening.{Inputs, Session, files_of, session_of}
+use Rattle.session_defs.specs.Opening.{Inputs, Session, files_of, session_of, text_at_first}
 use Rattle.session_defs.specs.Output.{output_of, output_for, written_for, script_lines, most_script_bytes}
 use Rattle.text_defs.specs.Text.{whole_lines}
 use Rattle.bracket_program.specs.Ends.{Outside, WritesFront, IsCut, IsDone, IsFront, IsTextEnd, LeavesScript}
@@ -14,7 +14,7 @@ use Rattle.bracket_program.specs.Run.{CannotOpen, SameCounts, Some_, OpensAll, R
 use Rattle.bracket_program.specs.Run.{Answered, IsRun, AnswersAll, AnswersTaken, WritesSome, IsUntouched, refusal_of}
 use Rattle.bracket_program.specs.Run.{Stands, FilesStand, AllStand, AllAccepted, left_behind, IsScripted, IfScripted}
 use Rattle.bracket_program.specs.Run.{IfMade, HasShortScript}
-use Rattle.bracket_program.specs.Opens.{IsOpenEnd}
+use Rattle.bracket_program.specs.Opens.{IsOpenEnd, IsMadeText}
 use Rattle.bracket_program.specs.declared.status.Status.{Status}
 use Rattle.bracket_program.specs.declared.status.Status.TheVariants as status
 use Rattle.bracket_program.proofs.FileLaws.{not_risen, same_counts, not_opened, not_refused, accepted_refused}
@@ -31,6 +31,23 @@ shorter script taken rest e s f = omega (arith, ap length e, length-append taken
 whole_short : (script taken rest : List ℕ) → script ≡ taken ++ rest → rest ≡ [] → length taken < most_script_bytes
     → most_script_bytes ≤ length script → ⊥
 whole_short script taken rest e n s m = omega (arith, ap length e, length-append taken rest, ap length n)
+
+-- what is said of a request, said of one that is the same
+pub ends_for : (before after : Outside) (session : Session) (s : Status) (r q : Request) → r ≡ q
+    → IsTextEnd before after r.subject session s → IsTextEnd before after q.subject session s
+ends_for before after session s r q e h = subst (λ (x : Request). IsTextEnd before after x.subject session s) e h
+
+made_by : (subject : Subject) (file : Option (List ℕ)) (text : List ℕ) → text ≡ text_at_first subject file
+    → IsMadeText subject text
+made_by (text_file name) file text e = tt
+made_by (generated lines) file text e = e
+
+-- a text that is made is open as it is at first
+pub made_text : (r q : Request) (inputs : Inputs) (session : Session) → q ≡ r → session ≡ session_of r inputs
+    → IsMadeText q.subject session.text
+made_text r q inputs session e same =
+    subst (λ (x : Request). IsMadeText x.subject session.text) (sym e)
+    (made_by r.subject inputs.text session.text (ap (λ (s : Session). s.text) same))
 
 -- a run over files, a script and a sink, of which this is told before and after it
 module _ (contents : List ℕ → Told) (faults faults' : List ℕ → ℕ) (before after : Outside) where

@@ -49,11 +49,7 @@ pub fn open_document<F: Files>(
 }
 
 /// The text of a file, or the one that is made.
-fn open_text<F: Files>(
-    alloc: Global,
-    files: &mut F,
-    subject: Subject<'_>,
-) -> Result<Text, Status>
+fn open_text<F: Files>(alloc: Global, files: &mut F, subject: Subject<'_>) -> Result<Text, Status>
     requires { IsInRange (subject_in subject) }
     ensures opens { IfOk result (OpensText (F.contents files.old) (subject_in subject.entry)) }
     ensures counts { OnOk result (SameCounts (F.faults files.old) (F.faults files.new)) }

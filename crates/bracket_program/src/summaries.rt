@@ -1,7 +1,7 @@
-ghost use Rattle.std.specs.Prelude.{◌≡◌, ◌≤◌, ◌<◌, ◌+◌, None, IfErr, OnErr, OnOk};
+ghost use Rattle.std.specs.Prelude.{◌≡◌, ◌≤◌, ◌<◌, ◌+◌, [], ◌∷◌, None, IfOk, IfErr, OnErr, OnOk};
 ghost use Rattle.line_text.specs.BatchRefusals.{HasCause};
 ghost use Rattle.piece_io.specs.Told.{appended};
-ghost use Rattle.generator_defs.specs.GeneratedText.{generated_text, text_after};
+ghost use Rattle.generator_defs.specs.GeneratedText.{generated_edit, generated_text, text_after};
 ghost use Rattle.session_defs.specs.MadeOutput.{made_output, summary_line};
 ghost use Rattle.bracket_program.specs.Ends.{IsReplyEnd, WritesFront};
 ghost use Rattle.bracket_program.specs.Sessions.{settings_in};
@@ -11,7 +11,7 @@ use crate::status::Status;
 use document::{Document, summary_of};
 use generator_defs::{EDITS_OF_A_SUMMARY, GENERATED_EDITS, MOST_GENERATED_LINES};
 use line_machine::Machine;
-use line_text::{EditRefusal, Edits};
+use line_text::{EditRefusal, Edits, Text};
 use piece_io::Sink;
 use script_words::Reply;
 use std::alloc::{AllocError, Global};
@@ -100,12 +100,22 @@ fn make_next(
     ensures text { OnOk result (document.new.text ≡ text_after lines (made + 1)) }
     ensures settings { settings_in document.new ≡ settings_in document.old }
 {
-    let mut edits = Edits::new(alloc);
-    edits.push(make_edit(alloc, lines, made + 1, document.text())?)?;
+    let edits = next_edit(alloc, lines, made, document.text())?;
     match document.edit(alloc, edits.as_slice()) {
         Ok(_) => Ok(()),
         Err(refusal) => Err(want_of_memory(refusal)),
     }
+}
+
+/// The batch of the edit behind so many, of the text at hand.
+fn next_edit(alloc: Global, lines: u32, made: u32, text: &Text) -> Result<Edits, AllocError>
+    requires few { lines ≤ MOST_GENERATED_LINES }
+    requires left { made < GENERATED_EDITS }
+    ensures { IfOk result (λ edits. edits ≡ generated_edit lines (made + 1) text.now ∷ []) }
+{
+    let mut edits = Edits::new(alloc);
+    edits.push(make_edit(alloc, lines, made + 1, text)?)?;
+    Ok(edits)
 }
 
 /// A batch that has no cause to be refused is refused only for want of memory.

@@ -8,14 +8,22 @@ use Rattle.bracket_program.proofs.summaries.make_next.Goals as goal
 
 pub returns-in-Ok-clause-text : goal.returns-in-Ok-clause-text
 returns-in-Ok-clause-text c =
-    let text = c.requires.text in
+    let lines = c.args.lines in
+    let next = c.args.made + 1 in
+    let batch : c.as_slice.result.now ≡ generated_edit lines next c.args.document.now.text ∷ [] =
+    c.as_slice.ensures ∙ (c.in_ok-edits.ensures ∙ ap (λ t. generated_edit lines next t ∷ []) c.text.ensures) in
     c.in-Ok.ensures.text
-    ∙ ap (λ t. edited t (generated_edit c.args.lines (c.args.made + 1) t ∷ [])) text
-    ∙ sym (text_after-next c.args.lines c.args.made)
+    ∙ (ap (edited c.args.document.now.text) batch
+    ∙ (ap (λ t. edited t (generated_edit lines next t ∷ [])) c.requires.text
+    ∙ sym (text_after-next lines c.args.made)))
 
 pub want_of_memory-requires : goal.want_of_memory-requires
 want_of_memory-requires c =
-    let text = c.requires.text in
-    let none = ap (λ t. batch_refusal t (generated_edit c.args.lines (c.args.made + 1) t ∷ [])) text
-    ∙ made_edit-accepted c.args.lines c.args.made c.requires.some c.requires.few c.requires.left in
+    let lines = c.args.lines in
+    let next = c.args.made + 1 in
+    let batch : c.as_slice.result.now ≡ generated_edit lines next c.args.document.now.text ∷ [] =
+    c.as_slice.ensures ∙ (c.in_ok-edits.ensures ∙ ap (λ t. generated_edit lines next t ∷ []) c.text.ensures) in
+    let none = ap (batch_refusal c.args.document.now.text) batch
+    ∙ (ap (λ t. batch_refusal t (generated_edit lines next t ∷ [])) c.requires.text
+    ∙ made_edit-accepted lines c.args.made c.requires.some c.requires.few c.requires.left) in
     subst (λ cause. HasCause cause c.in-Err.refusal) none c.in-Err.ensures.refused
