@@ -6,7 +6,7 @@ use Rattle.piece_io.specs.Told.{Told, Untold, Missing, Holds, risen}
 use Rattle.session_defs.specs.declared.file_kind.FileKind.{FileKind}
 use Rattle.session_defs.specs.declared.file_kind.FileKind.TheVariants as kind
 use Rattle.session_defs.specs.Words.{Request}
-use Rattle.session_defs.specs.Opening.{NamedFile, Inputs, named_if, files_of}
+use Rattle.session_defs.specs.Opening.{NamedFile, Inputs, named_if, text_name, files_of}
 use Rattle.bracket_program.specs.Run.{Reads, Opens, Refuses, CannotOpen, SameCounts, Reaches, RefusedAt, FailedAt}
 use Rattle.bracket_program.specs.Run.{Some_, Each, OpensIf, OpensAll, TellsIf, TellsAll, IsAccepted, IsRefused}
 use Rattle.bracket_program.specs.Run.{FirstRefused, Stands}
@@ -71,12 +71,13 @@ module _ (contents : List ℕ → Told) where
   each_named k (Some name) (Some bytes) o = ((bytes, o), tt)
 
   pub each_opened : (r : Request) (inputs : Inputs) → OpensAll contents r inputs → Each IsOpened (files_of r)
-  each_opened r inputs o = (
-    (inputs.text, o.text),
-    each_append IsOpened (named_if kind.Grammar r.grammar) (named_if kind.Brackets r.brackets)
-        (each_named kind.Grammar r.grammar inputs.grammar o.grammar)
-        (each_named kind.Brackets r.brackets inputs.brackets o.brackets),
-  )
+  each_opened r inputs o =
+      each_append IsOpened (named_if kind.Text (text_name r.subject))
+      (named_if kind.Grammar r.grammar ++ named_if kind.Brackets r.brackets)
+      (each_named kind.Text (text_name r.subject) inputs.text o.text)
+      (each_append IsOpened (named_if kind.Grammar r.grammar) (named_if kind.Brackets r.brackets)
+      (each_named kind.Grammar r.grammar inputs.grammar o.grammar)
+      (each_named kind.Brackets r.brackets inputs.brackets o.brackets))
 
   -- where all files were opened, none of them can't be
   pub not_opened : (r : Request) (inputs : Inputs) → OpensAll contents r inputs
@@ -126,14 +127,14 @@ module _ (contents : List ℕ → Told) where
   same_if k (Some name) (Some bytes) None o t = absurd t
   same_if k (Some name) (Some bytes) (Some file) o t = ap Some (reads_told (contents name) file bytes t o.reads)
 
-  abbrev inputs_of : List ℕ → Option (List ℕ) → Option (List ℕ) → Inputs
+  abbrev inputs_of : Option (List ℕ) → Option (List ℕ) → Option (List ℕ) → Inputs
   inputs_of text grammar brackets = record { text = text; grammar = grammar; brackets = brackets }
 
   pub same_inputs : (r : Request) (inputs told : Inputs) → OpensAll contents r inputs → TellsAll contents r told
       → inputs ≡ told
   same_inputs r inputs told o t =
       ap (λ text. inputs_of text inputs.grammar inputs.brackets)
-      (reads_told (contents r.text) told.text inputs.text t.text o.text.reads)
+      (same_if kind.Text (text_name r.subject) inputs.text told.text o.text t.text)
       ∙ (ap (λ grammar. inputs_of told.text grammar inputs.brackets)
       (same_if kind.Grammar r.grammar inputs.grammar told.grammar o.grammar t.grammar)
       ∙ ap (inputs_of told.text told.grammar)

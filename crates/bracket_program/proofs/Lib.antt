@@ -6,4 +6,4 @@ mod Replying
 mod RunLaws
 mod Scripts
 mod ServingLaws
-mod WordLaws
+mod SummaryLaws

@@ -13,8 +13,10 @@ use Rattle.document.specs.State.{State}
 use Rattle.document.specs.Settings.{settings_by}
 use Rattle.session_defs.specs.declared.file_kind.FileKind.{FileKind}
 use Rattle.session_defs.specs.declared.file_kind.FileKind.TheVariants as kind
-use Rattle.session_defs.specs.Words.{Request}
-use Rattle.session_defs.specs.Opening.{NamedFile, OpenGrammar, Session, named_if, files_of, is_accepted, is_of_kind}
+use Rattle.generator_defs.specs.GeneratedText.{generated_text}
+use Rattle.session_defs.specs.Words.{Subject, text_file, generated, Request}
+use Rattle.session_defs.specs.Opening.{NamedFile, OpenGrammar, Session, named_if, text_name, files_of, is_accepted}
+use Rattle.session_defs.specs.Opening.{is_of_kind, text_at_first}
 use Rattle.session_defs.specs.Opening.{most_file_bytes, grammar_of_file, brackets_of_file, texts_of, session_by}
 use Rattle.bracket_program.specs.Run.{Opens, OpensIf, Refuses, SameCounts, IsFileEnd, Reaches, Each, refusal_of}
 use Rattle.bracket_program.specs.Texts.{ReadsFile, IsKindEnd}
@@ -198,47 +200,63 @@ module _ (contents : List ℕ → Told) (faults faults' : List ℕ → ℕ) (r :
   none_end k status.WriteFault e = absurd e
   none_end k status.ScriptFull e = absurd e
 
-  pub text_end : (s : Status) → IsFileEnd contents faults faults' (file kind.Text r.text) s
+  abbrev other_files : List NamedFile
+  other_files = named_if kind.Grammar r.grammar ++ named_if kind.Brackets r.brackets
+
+  text_end_by : (name : Option (List ℕ)) → text_name r.subject ≡ name → (s : Status)
+      → IsNamedEnd contents faults faults' kind.Text name s → IsOpenEnd contents faults faults' r s
+  text_end_by None e s h = none_end kind.Text s h
+  text_end_by (Some name) e s h =
+      file_end (file kind.Text name)
+      (λ P p. subst (λ n. Reaches contents P (named_if kind.Text n ++ other_files)) (sym e) (inl p)) s h
+
+  pub text_end : (s : Status) → IsNamedEnd contents faults faults' kind.Text (text_name r.subject) s
       → IsOpenEnd contents faults faults' r s
-  text_end s e = file_end (file kind.Text r.text) (λ P p. inl p) s e
-
-  machine_end_by : IsOpened contents (file kind.Text r.text) → (name : Option (List ℕ)) → r.grammar ≡ name
-      → (s : Status) → IsNamedEnd contents faults faults' kind.Grammar name s → IsOpenEnd contents faults faults' r s
-  machine_end_by o None e s h = none_end kind.Grammar s h
-  machine_end_by o (Some name) e s h =
-      file_end (file kind.Grammar name)
-      (λ P p. inr (
-        o,
-        subst (λ g. Reaches contents P (named_if kind.Grammar g ++ named_if kind.Brackets r.brackets))
-            (sym e) (inl p),
-      )) s h
-
-  pub machine_end : IsOpened contents (file kind.Text r.text) → (s : Status)
-      → IsNamedEnd contents faults faults' kind.Grammar r.grammar s → IsOpenEnd contents faults faults' r s
-  machine_end o s h = machine_end_by o r.grammar refl s h
+  text_end s h = text_end_by (text_name r.subject) refl s h
 
   reaches_behind : (P : NamedFile → Type 0) (xs ys : List NamedFile) → Each (IsOpened contents) xs
       → Reaches contents P ys → Reaches contents P (xs ++ ys)
   reaches_behind P [] ys e h = h
   reaches_behind P (f ∷ xs) ys e h = inr (e.0, reaches_behind P xs ys e.1 h)
 
-  brackets_end_by : IsOpened contents (file kind.Text r.text) → (bytes : Option (List ℕ))
+  -- the text's file was opened, where it has one
+  abbrev TextIsOpened : Option (List ℕ) → Type 0
+  TextIsOpened bytes = OpensIf contents kind.Text (text_name r.subject) bytes
+
+  behind_text : (bytes : Option (List ℕ)) → TextIsOpened bytes → (P : NamedFile → Type 0)
+      → Reaches contents P other_files → Reaches contents P (files_of r)
+  behind_text bytes o P h =
+      reaches_behind P (named_if kind.Text (text_name r.subject)) other_files
+      (each_named contents kind.Text (text_name r.subject) bytes o) h
+
+  machine_end_by : (text : Option (List ℕ)) → TextIsOpened text → (name : Option (List ℕ)) → r.grammar ≡ name
+      → (s : Status) → IsNamedEnd contents faults faults' kind.Grammar name s → IsOpenEnd contents faults faults' r s
+  machine_end_by text o None e s h = none_end kind.Grammar s h
+  machine_end_by text o (Some name) e s h =
+      file_end (file kind.Grammar name)
+      (λ P p. behind_text text o P
+      (subst (λ g. Reaches contents P (named_if kind.Grammar g ++ named_if kind.Brackets r.brackets))
+      (sym e) (inl p))) s h
+
+  pub machine_end : (text : Option (List ℕ)) → TextIsOpened text → (s : Status)
+      → IsNamedEnd contents faults faults' kind.Grammar r.grammar s → IsOpenEnd contents faults faults' r s
+  machine_end text o s h = machine_end_by text o r.grammar refl s h
+
+  brackets_end_by : (text : Option (List ℕ)) → TextIsOpened text → (bytes : Option (List ℕ))
       → OpensIf contents kind.Grammar r.grammar bytes → (name : Option (List ℕ)) → r.brackets ≡ name
       → (s : Status) → IsNamedEnd contents faults faults' kind.Brackets name s → IsOpenEnd contents faults faults' r s
-  brackets_end_by o bytes g None e s h = none_end kind.Brackets s h
-  brackets_end_by o bytes g (Some name) e s h =
+  brackets_end_by text o bytes g None e s h = none_end kind.Brackets s h
+  brackets_end_by text o bytes g (Some name) e s h =
       file_end (file kind.Brackets name)
-      (λ P p. inr (
-        o,
-        reaches_behind P (named_if kind.Grammar r.grammar) (named_if kind.Brackets r.brackets)
-            (each_named contents kind.Grammar r.grammar bytes g)
-            (subst (λ b. Reaches contents P (named_if kind.Brackets b)) (sym e) (inl p)),
-      )) s h
+      (λ P p. behind_text text o P
+      (reaches_behind P (named_if kind.Grammar r.grammar) (named_if kind.Brackets r.brackets)
+      (each_named contents kind.Grammar r.grammar bytes g)
+      (subst (λ b. Reaches contents P (named_if kind.Brackets b)) (sym e) (inl p)))) s h
 
-  pub brackets_end : IsOpened contents (file kind.Text r.text) → (bytes : Option (List ℕ))
+  pub brackets_end : (text : Option (List ℕ)) → TextIsOpened text → (bytes : Option (List ℕ))
       → OpensIf contents kind.Grammar r.grammar bytes → (s : Status)
       → IsNamedEnd contents faults faults' kind.Brackets r.brackets s → IsOpenEnd contents faults faults' r s
-  brackets_end o bytes g s h = brackets_end_by o bytes g r.brackets refl s h
+  brackets_end text o bytes g s h = brackets_end_by text o bytes g r.brackets refl s h
 
 -- ---- what is open
 
@@ -249,6 +267,22 @@ ok_map (Err e) f p = tt
 pub err_map : {T E : Type 0} (r : Result T E) {P Q : E → Type 0} → ((e : E) → P e → Q e) → IfErr r P → IfErr r Q
 err_map (Ok x) f p = tt
 err_map (Err e) f p = f e p
+
+opened_text_file : (contents : List ℕ → Told) (name bytes : List ℕ) → ReadsFile (contents name) bytes
+    → is_of_kind kind.Text bytes ≡ true → (text : List ℕ) → text ≡ text_of bytes
+    → OpensText contents (text_file name) text
+opened_text_file contents name bytes r a text e =
+    record { bytes = Some bytes; opens = opens_by (contents name) kind.Text bytes r a; is = e }
+
+pub opened_text : {E : Type 0} (result : Result (List ℕ) E) (contents : List ℕ → Told) (name bytes : List ℕ)
+    → ReadsFile (contents name) bytes → IfOk result (λ text. text ≡ text_of bytes)
+    → OnOk result (is_of_kind kind.Text bytes ≡ true) → IfOk result (OpensText contents (text_file name))
+opened_text (Ok text) contents name bytes r e a = opened_text_file contents name bytes r a text e
+opened_text (Err s) contents name bytes r e a = tt
+
+pub made_text_opens : (contents : List ℕ → Told) (lines : ℕ) (text : List ℕ) → text ≡ generated_text lines
+    → OpensText contents (generated lines) text
+made_text_opens contents lines text e = record { bytes = None; opens = tt; is = e }
 
 opened_machine : (contents : List ℕ → Told) (name bytes : List ℕ) (limits : Limits)
     → ReadsFile (contents name) bytes → is_of_kind kind.Grammar bytes ≡ true → (m : MachineState)
@@ -283,7 +317,7 @@ made_by limits (Some g) texts text = refl
 -- a text, a machine and brackets, one opened after the other
 pub document_opens : (contents contents' contents'' : List ℕ → Told) → ((q : List ℕ) → contents' q ≡ contents q)
     → ((q : List ℕ) → contents'' q ≡ contents q) → (r : Request) (text : List ℕ) (m : MachineState)
-    (texts : List BracketText) → OpensText contents r.text text → OpensMachine contents' r.grammar r.limits m
+    (texts : List BracketText) → OpensText contents r.subject text → OpensMachine contents' r.grammar r.limits m
     → OpensBrackets contents'' r.brackets texts → (d : State MachineState) → d.text ≡ text → d.machine ≡ m
     → d.texts ≡ texts → d.limits ≡ r.limits → OpensDocument contents r d
 document_opens contents contents' contents'' same same' r text m texts t o b d et em es el = record {
@@ -299,16 +333,16 @@ document_opens contents contents' contents'' same same' r text m texts t o b d e
       ∙ (ap (λ l. session_made (machine_for r.limits (option_and_then grammar_of_file o.bytes)) (texts_of b.bytes) l d.text) el
       ∙ (ap (session_made (machine_for r.limits (option_and_then grammar_of_file o.bytes)) (texts_of b.bytes) r.limits)
       (et ∙ t.is)
-      ∙ made_by r.limits (option_and_then grammar_of_file o.bytes) (texts_of b.bytes) (text_of t.bytes))));
+      ∙ made_by r.limits (option_and_then grammar_of_file o.bytes) (texts_of b.bytes) (text_at_first r.subject t.bytes))));
 }
 
 -- brackets that aren't opened, behind a text and a machine that are
 pub brackets_unopened : (contents contents' contents'' : List ℕ → Told) → ((q : List ℕ) → contents' q ≡ contents q)
     → ((q : List ℕ) → contents'' q ≡ contents q) → (faults faults' faults'' : List ℕ → ℕ)
-    → SameCounts faults faults' → (r : Request) (text : List ℕ) (m : MachineState) → OpensText contents r.text text
+    → SameCounts faults faults' → (r : Request) (text : List ℕ) (m : MachineState) → OpensText contents r.subject text
     → OpensMachine contents' r.grammar r.limits m → (s : Status)
     → IsNamedEnd contents'' faults' faults'' kind.Brackets r.brackets s → IsOpenEnd contents faults faults'' r s
 brackets_unopened contents contents' contents'' same same' faults faults' faults'' stand r text m t o s e =
-    brackets_end contents faults faults'' r (t.bytes, t.opens) o.bytes
+    brackets_end contents faults faults'' r t.bytes t.opens o.bytes
     (opens_if_same contents contents' same kind.Grammar r.grammar o.bytes o.opens) s
     (named_end_same contents contents'' same' faults faults' faults'' stand kind.Brackets r.brackets s e)

@@ -129,14 +129,13 @@ serving-done {before} {now} {after} {session} {text} {cutter} {taken} same last 
 -- some was taken, and each whole line of it has its reply
 abbrev pub serving-cut : {before now after : Outside} {session : Session} {text : List ℕ} {cutter : Cutting}
     {taken : ℕ}
-    → Serving before now session text cutter taken → taken ≤ most_script_bytes → after.left ≡ now.left
+    → Serving before now session text cutter taken → after.left ≡ now.left
     → after.held ≡ now.held → after.writes ≡ now.writes
     → IsCut before after session
-serving-cut {before} s m l h w = record {
+serving-cut {before} s l h w = record {
   script = s.script;
   takes = subst (λ left. Takes before.left left s.script) (sym l) s.takes;
   writes = h ∙ s.writes;
-  short = subst (λ k. k ≤ most_script_bytes) (sym s.count) m;
   writes_stand = w ∙ s.writes_stand;
 }
 

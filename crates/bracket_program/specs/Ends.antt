@@ -1,8 +1,10 @@
 -- How a run ends: what each status says of the counts of faults, of what was taken and of what was written.
 use Rattle.std.specs.Prelude.{◌≡◌, ℕ, ◌<◌, ◌≤◌, List, [], ◌++◌, length, Option, Some, IfSome, option_map}
+use Rattle.session_defs.specs.Words.{Subject, text_file, generated}
 use Rattle.session_defs.specs.Opening.{Session}
 use Rattle.text_defs.specs.Text.{whole_lines}
 use Rattle.piece_io.specs.Told.{appended, risen}
+use Rattle.session_defs.specs.MadeOutput.{made_output}
 use Rattle.session_defs.specs.Output.{written_for, script_lines, most_script_bytes}
 use Rattle.bracket_program.specs.declared.status.Status.{Status}
 use Rattle.bracket_program.specs.declared.status.Status.TheVariants as status
@@ -49,7 +51,6 @@ pub record IsCut (before after : Outside) (session : Session) : Type 0 where
   pub script : List ℕ
   pub takes : Takes before.left after.left script
   pub writes : after.held ≡ appended before.held (written_for session (whole_lines script))
-  pub short : length script ≤ most_script_bytes
   pub writes_stand : after.writes ≡ before.writes
 
 -- what was written is a front of what would be
@@ -59,7 +60,8 @@ pub record IsFront (before after : Outside) (session : Session) : Type 0 where
 -- how each status of a script that is answered stands to the outside
 abbrev pub IsEnd : Outside → Outside → Session → Status → Type 0
 IsEnd before after session status.Done = IsDone before after session
-IsEnd before after session status.ReadFault = IsCut before after session × (risen before.reads ≤ after.reads)
+IsEnd before after session status.ReadFault =
+    (cut : IsCut before after session) × (length cut.script < most_script_bytes) × (risen before.reads ≤ after.reads)
 IsEnd before after session status.ScriptFull =
     (cut : IsCut before after session) × (length cut.script ≡ most_script_bytes) × (after.reads ≡ before.reads)
 IsEnd before after session status.WriteFault =
@@ -67,6 +69,28 @@ IsEnd before after session status.WriteFault =
 IsEnd before after session status.Memory =
     IsFront before after session × (after.writes ≡ before.writes) × (after.reads ≡ before.reads)
 IsEnd before after session _ = ⊥
+
+-- the script is as it was
+abbrev pub LeavesScript : Outside → Outside → Type 0
+LeavesScript before after = (after.left ≡ before.left) × (after.reads ≡ before.reads)
+
+-- how each status of a text that is made stands to the outside, where this is to be written: no script is read
+abbrev pub IsMadeEnd : Outside → Outside → (all : List ℕ) → Status → Type 0
+IsMadeEnd before after all status.Done =
+    (after.held ≡ appended before.held all) × (after.writes ≡ before.writes) × (after.left ≡ before.left)
+    × (after.reads ≡ before.reads)
+IsMadeEnd before after all status.WriteFault =
+    WritesFront before.held after.held all × (risen before.writes ≤ after.writes) × (after.left ≡ before.left)
+    × (after.reads ≡ before.reads)
+IsMadeEnd before after all status.Memory =
+    WritesFront before.held after.held all × (after.writes ≡ before.writes) × (after.left ≡ before.left)
+    × (after.reads ≡ before.reads)
+IsMadeEnd before after all _ = ⊥
+
+-- the same of either text
+abbrev pub IsTextEnd : Outside → Outside → Subject → Session → Status → Type 0
+IsTextEnd before after (text_file name) session s = IsEnd before after session s
+IsTextEnd before after (generated lines) session s = IsMadeEnd before after (made_output session.settings lines) s
 
 -- of all these bytes a front was added to what is held, and the rest is still to come
 pub record WritesUpTo (before after : Option (List ℕ)) (all rest : List ℕ) : Type 0 where

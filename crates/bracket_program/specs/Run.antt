@@ -1,12 +1,12 @@
 -- What a whole run does, for each status that it ends with.
-use Rattle.std.specs.Prelude.{◌≡◌, ◌⊎◌, ℕ, ◌-◌, ◌^◌, ◌<◌, ◌≤◌, List, [], ◌∷◌, ◌++◌, true, false, Option, Some, None}
+use Rattle.std.specs.Prelude.{◌≡◌, ◌⊎◌, ℕ, ◌-◌, ◌^◌, ◌<◌, ◌≤◌, List, [], ◌∷◌, ◌++◌, length, true, false, Option, Some, None}
 use Rattle.piece_io.specs.Told.{Told, Untold, Missing, Holds, appended, risen}
 use Rattle.session_defs.specs.declared.file_kind.FileKind.{FileKind}
 use Rattle.session_defs.specs.declared.file_kind.FileKind.TheVariants as kind
-use Rattle.session_defs.specs.Words.{Request}
-use Rattle.session_defs.specs.Opening.{NamedFile, Inputs, files_of, is_accepted, session_of}
-use Rattle.session_defs.specs.Output.{output_of, written_so_far}
-use Rattle.bracket_program.specs.Ends.{Outside, IsEnd, WritesFront}
+use Rattle.session_defs.specs.Words.{Subject, text_file, generated, Request}
+use Rattle.session_defs.specs.Opening.{NamedFile, Inputs, text_name, files_of, is_accepted, session_of}
+use Rattle.session_defs.specs.Output.{output_of, written_so_far, most_script_bytes}
+use Rattle.bracket_program.specs.Ends.{Outside, IsTextEnd, WritesFront}
 use Rattle.bracket_program.specs.declared.status.Status.{Status}
 use Rattle.bracket_program.specs.declared.status.Status.TheVariants as status
 
@@ -85,7 +85,7 @@ OpensIf contents kind _ _ = ⊥
 
 -- these are the bytes of all files that are named
 pub record OpensAll (contents : List ℕ → Told) (r : Request) (inputs : Inputs) : Type 0 where
-  pub text : Opens (contents r.text) kind.Text inputs.text
+  pub text : OpensIf contents kind.Text (text_name r.subject) inputs.text
   pub grammar : OpensIf contents kind.Grammar r.grammar inputs.grammar
   pub brackets : OpensIf contents kind.Brackets r.brackets inputs.brackets
 
@@ -97,7 +97,7 @@ pub record Answered (r : Request) (contents : List ℕ → Told) (P : Inputs →
   pub opens : OpensAll contents r inputs
   pub ends : P inputs
 
--- A run for these words: nothing is read that they don't name, and nothing is written before all files are open.
+-- What a run for these words comes to. Until all files are open nothing is written, and no script is read.
 abbrev pub IsRun : (List ℕ → Told) → (List ℕ → ℕ) → (List ℕ → ℕ) → Outside → Outside → Option Request → Status → Type 0
 IsRun contents faults faults' before after None status.Words = SameCounts faults faults' × (after ≡ before)
 IsRun contents faults faults' before after None _ = ⊥
@@ -111,11 +111,11 @@ IsRun contents faults faults' before after (Some r) status.BracketFile =
 IsRun contents faults faults' before after (Some r) status.ReadFault =
     (FailedAt contents faults faults' (files_of r) × (after ≡ before))
     ⊎ (SameCounts faults faults'
-    × Answered r contents (λ inputs. IsEnd before after (session_of r.limits inputs) status.ReadFault))
+    × Answered r contents (λ inputs. IsTextEnd before after r.subject (session_of r inputs) status.ReadFault))
 IsRun contents faults faults' before after (Some r) status.Memory = SameCounts faults faults'
-    × ((after ≡ before) ⊎ Answered r contents (λ inputs. IsEnd before after (session_of r.limits inputs) status.Memory))
+    × ((after ≡ before) ⊎ Answered r contents (λ inputs. IsTextEnd before after r.subject (session_of r inputs) status.Memory))
 IsRun contents faults faults' before after (Some r) s =
-    SameCounts faults faults' × Answered r contents (λ inputs. IsEnd before after (session_of r.limits inputs) s)
+    SameCounts faults faults' × Answered r contents (λ inputs. IsTextEnd before after r.subject (session_of r inputs) s)
 
 -- ---- where files and script are told
 
@@ -127,7 +127,7 @@ TellsIf contents _ _ = ⊥
 
 -- what all files hold that are named
 pub record TellsAll (contents : List ℕ → Told) (r : Request) (inputs : Inputs) : Type 0 where
-  pub text : contents r.text ≡ Holds inputs.text
+  pub text : TellsIf contents (text_name r.subject) inputs.text
   pub grammar : TellsIf contents r.grammar inputs.grammar
   pub brackets : TellsIf contents r.brackets inputs.brackets
 
@@ -149,23 +149,34 @@ FirstRefused contents kind [] = ⊥
 FirstRefused contents kind (f ∷ files) = ((f.kind ≡ kind) × IsRefused (contents f.name) f.kind)
     ⊎ (IsAccepted (contents f.name) f.kind × FirstRefused contents kind files)
 
--- each line of the whole script has its reply, and no byte of it is left
+-- no byte of the script is left; where a text is made, the script is as it was
+abbrev pub left_behind : Subject → (script : List ℕ) → List ℕ
+left_behind (text_file name) script = []
+left_behind (generated lines) script = script
+
+-- all that is to be written was: each line of the whole script has its reply, or each summary is there
 abbrev pub AnswersAll : (List ℕ → Told) → Outside → Outside → Request → Type 0
 AnswersAll contents before after r = (inputs : Inputs) (script : List ℕ) → TellsAll contents r inputs
     → before.left ≡ Some script
-    → (after.held ≡ appended before.held (output_of r.limits inputs script)) × (after.left ≡ Some [])
+    → (after.held ≡ appended before.held (output_of r inputs script)) × (after.left ≡ Some (left_behind r.subject script))
+
+-- a script is answered
+abbrev pub IsScripted : Subject → Type 0
+IsScripted (text_file name) = Unit {0}
+IsScripted (generated lines) = ⊥
 
 -- a front of the script was taken, and each whole line of that has its reply
-abbrev pub AnswersTaken : (List ℕ → Told) → Outside → Outside → (List ℕ → Type 0) → Request → Type 0
-AnswersTaken contents before after P r = (inputs : Inputs) (script : List ℕ) → TellsAll contents r inputs
-    → before.left ≡ Some script
-    → (taken : List ℕ) × (rest : List ℕ) × (script ≡ taken ++ rest) × (after.left ≡ Some rest)
-    × (after.held ≡ appended before.held (written_so_far r.limits inputs taken)) × P taken
+pub record AnswersTaken (contents : List ℕ → Told) (before after : Outside) (P : List ℕ → Type 0) (r : Request) : Type 0 where
+  pub scripted : IsScripted r.subject
+  pub answers : (inputs : Inputs) (script : List ℕ) → TellsAll contents r inputs
+      → before.left ≡ Some script
+      → (taken : List ℕ) × (rest : List ℕ) × (script ≡ taken ++ rest) × (after.left ≡ Some rest)
+      × (after.held ≡ appended before.held (written_so_far r inputs taken)) × P taken
 
--- a front of what the whole script asks for was written
+-- a front of what is to be written was written
 abbrev pub WritesSome : (List ℕ → Told) → Outside → Outside → Request → Type 0
 WritesSome contents before after r = (inputs : Inputs) (script : List ℕ) → TellsAll contents r inputs
-    → before.left ≡ Some script → WritesFront before.held after.held (output_of r.limits inputs script)
+    → before.left ≡ Some script → WritesFront before.held after.held (output_of r inputs script)
 
 -- nothing of the script was taken, and nothing was written
 abbrev pub IsUntouched : Outside → Outside → Type 0
@@ -181,10 +192,24 @@ Stands before after = (after ≡ before) × (before < 2 ^ 64 - 1)
 abbrev pub FilesStand : (List ℕ → ℕ) → (List ℕ → ℕ) → Request → Type 0
 FilesStand faults faults' r = Each (λ f. Stands (faults f.name) (faults' f.name)) (files_of r)
 
--- no count of what the words name rose
+-- this holds where a script is answered
+abbrev pub IfScripted : Subject → Type 0 → Type 0
+IfScripted (text_file name) P = P
+IfScripted (generated lines) P = Unit {0}
+
+-- this holds where a text is made
+abbrev pub IfMade : Subject → Type 0 → Type 0
+IfMade (text_file name) P = Unit {0}
+IfMade (generated lines) P = P
+
+-- the script is told, and isn't too long
+abbrev pub HasShortScript : Outside → Type 0
+HasShortScript before = (script : List ℕ) × (before.left ≡ Some script) × (length script < most_script_bytes)
+
+-- no count of what the words name rose, nor that of a script that is answered, nor the sink's
 pub record AllStand (faults faults' : List ℕ → ℕ) (before after : Outside) (r : Request) : Type 0 where
   pub files : FilesStand faults faults' r
-  pub reads : Stands before.reads after.reads
+  pub reads : IfScripted r.subject (Stands before.reads after.reads)
   pub writes : Stands before.writes after.writes
 
 -- all files are told and accepted

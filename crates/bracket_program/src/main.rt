@@ -9,9 +9,9 @@ mod reply_lines;
 mod run;
 mod serve;
 mod status;
+mod summaries;
 #[cfg(test)]
 mod tests;
-mod words;
 
 ghost use Rattle.std.specs.Prelude.{◌≡◌, ◌<◌};
 

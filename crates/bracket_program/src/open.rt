@@ -1,17 +1,19 @@
 ghost use Rattle.std.specs.Prelude.{◌≡◌, ◌≤◌, ℕ, List, true, option_map, Some, None, IfOk, IfErr, OnOk};
+ghost use Rattle.generator_defs.specs.GeneratedText.{generated_text};
 ghost use Rattle.text_defs.specs.Text.{text_of};
 ghost use Rattle.session_defs.specs.declared.file_kind.FileKind.TheVariants as kind;
-ghost use Rattle.session_defs.specs.Opening.{brackets_of_file, grammar_of_file, is_of_kind};
+ghost use Rattle.session_defs.specs.Opening.{brackets_of_file, grammar_of_file, is_of_kind, text_name};
 ghost use Rattle.bracket_program.specs.Run.{IsFileEnd, Opens, SameCounts, refusal_of};
 ghost use Rattle.bracket_program.specs.Opens.{IsNamedEnd, IsOpenEnd, OpensBrackets, OpensDocument, OpensMachine, OpensText, file};
+ghost use Rattle.command_line.specs.Subjects.{IsInRange, subject_in};
 ghost use Rattle.bracket_program.specs.Sessions.{machine_for};
 ghost use Rattle.bracket_program.specs.Texts.{IsKindEnd, ReadsFile};
 
 use crate::status::Status;
-use crate::words::Request;
 use answer_defs::MOST_TAB;
 use bracket_lex::Brackets;
 use bracket_marks::BracketRefusal;
+use command_line::{Request, Subject};
 use document::Document;
 use grammar_json::{GrammarRefusal, PairRefusal, read_brackets, read_grammar};
 use line_machine::Machine;
@@ -21,9 +23,11 @@ use rule_graph::{Graph, GraphRefusal};
 use session_defs::FileKind;
 use std::alloc::Global;
 use text_defs::MOST_FILE_BYTES;
+use text_maker::make_text;
 use text_pos::{Bytes, Limits};
 
-/// Opens the files that the words name, one after the other: each is read and then tested before the next.
+/// Opens the files that the words name, one after the other: each is read and then tested before the next. A text that
+/// is made has no file.
 pub fn open_document<F: Files>(
     alloc: Global,
     files: &mut F,
@@ -31,26 +35,34 @@ pub fn open_document<F: Files>(
 ) -> Result<Document<Machine>, Status>
     requires some_columns { 1 ≤ request.now.limits.tab }
     requires few_columns { request.now.limits.tab ≤ MOST_TAB }
+    requires in_range { IsInRange request.now.subject }
     ensures opens { IfOk result (OpensDocument (F.contents files.old) request.now) }
     ensures counts { OnOk result (SameCounts (F.faults files.old) (F.faults files.new)) }
     ensures ends { IfErr result (IsOpenEnd (F.contents files.old) (F.faults files.old) (F.faults files.new) request.now) }
     ensures contents { (q : List ℕ) → F.contents files.new q ≡ F.contents files.old q }
 {
-    let text = open_text(alloc, files, request.text)?;
+    let text = open_text(alloc, files, request.subject)?;
     let machine = open_machine(alloc, files, request.grammar, request.limits)?;
     let brackets = open_brackets(alloc, files, request.brackets)?;
     let document = Document::begin(alloc, text, machine, brackets, request.limits)?;
     Ok(document)
 }
 
-fn open_text<F: Files>(alloc: Global, files: &mut F, name: &str) -> Result<Text, Status>
-    ensures opens { IfOk result (OpensText (F.contents files.old) name.now) }
+/// The text of a file, or the one that is made.
+fn open_text<F: Files>(alloc: Global, files: &mut F, subject: Subject<'_>) -> Result<Text, Status>
+    requires { IsInRange (subject_in subject) }
+    ensures opens { IfOk result (OpensText (F.contents files.old) (subject_in subject.entry)) }
     ensures counts { OnOk result (SameCounts (F.faults files.old) (F.faults files.new)) }
-    ensures ends { IfErr result (IsFileEnd (F.contents files.old) (F.faults files.old) (F.faults files.new) (file kind.Text name.now)) }
+    ensures ends { IfErr result (IsNamedEnd (F.contents files.old) (F.faults files.old) (F.faults files.new) kind.Text (text_name (subject_in subject.entry))) }
     ensures contents { (q : List ℕ) → F.contents files.new q ≡ F.contents files.old q }
 {
-    let bytes = read_named(alloc, files, FileKind::Text, name)?;
-    text_in(alloc, bytes.as_slice())
+    match subject {
+        Subject::Generated(lines) => Ok(make_text(alloc, lines)?),
+        Subject::TextFile(name) => {
+            let bytes = read_named(alloc, files, FileKind::Text, name)?;
+            text_in(alloc, bytes.as_slice())
+        }
+    }
 }
 
 /// The machine by the grammar of a file; without a file, the one without a grammar.

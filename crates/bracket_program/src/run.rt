@@ -1,16 +1,22 @@
-ghost use Rattle.std.specs.Prelude.{◌≡◌, ◌⊎◌, ◌↔◌, ◌<◌, ◌≤◌, ℕ, List, map, length, None, Some, IfSome, string_bytes, ⊤};
+ghost use Rattle.std.specs.Prelude.{◌≡◌, ◌⊎◌, ◌↔◌, ◌<◌, ◌≤◌, ℕ, List, map, length, None, Some, IfSome, string_bytes};
 ghost use Rattle.piece_io.specs.Told.{risen};
 ghost use Rattle.session_defs.specs.declared.file_kind.FileKind.{FileKind};
 ghost use Rattle.session_defs.specs.Words.{request_of};
 ghost use Rattle.session_defs.specs.Opening.{Inputs, files_of};
 ghost use Rattle.session_defs.specs.Output.{most_script_bytes};
-ghost use Rattle.bracket_program.specs.Ends.{outside};
-ghost use Rattle.bracket_program.specs.Run.{AllAccepted, AllStand, AnswersAll, AnswersTaken, CannotOpen, FailedAt, FilesStand, FirstRefused, IsRun, IsUntouched, RefusedAt, SameCounts, Some_, WritesSome, refusal_of};
+ghost use Rattle.bracket_program.specs.Ends.{IsTextEnd, LeavesScript, outside};
+ghost use Rattle.bracket_program.specs.Opens.{IsMadeText};
+ghost use Rattle.bracket_program.specs.Run.{AllAccepted, AllStand, AnswersAll, AnswersTaken, CannotOpen, FailedAt, FilesStand, FirstRefused, HasShortScript, IfMade, IfScripted, IsRun, IsScripted, IsUntouched, RefusedAt, SameCounts, Some_, WritesSome, refusal_of};
+ghost use Rattle.bracket_program.specs.Sessions.{session_in};
+ghost use Rattle.command_line.specs.Subjects.{IsInRange, subject_in};
 
 use crate::open::open_document;
 use crate::serve::serve;
 use crate::status::Status;
-use crate::words::read_words;
+use crate::summaries::tell;
+use command_line::{Subject, read_words};
+use document::Document;
+use line_machine::Machine;
 use piece_io::{Files, Sink, Source};
 use std::alloc::Global;
 use std::sync::ledger::Ledger;
@@ -36,7 +42,7 @@ pub fn run<F: Files, S: Source, K: Sink, L: Ledger, M: Ledger>(
         (request_of (map string_bytes words.now)) result }
 
     // The headline: what is written is, line by line, the reply that running the whole text by the grammar's rules from
-    // its first line, and pairing it anew, gives.
+    // its first line, and pairing it anew, gives; of a text that is made, what is told of it in passing.
     ensures done { result ≡ Status.Done → IfSome (request_of (map string_bytes words.now)) (AnswersAll (F.contents files.old)
         (outside (S.left script.old) (K.held sink.old) (S.faults script.old) (K.faults sink.old))
         (outside (S.left script.new) (K.held sink.new) (S.faults script.new) (K.faults sink.new))) }
@@ -51,7 +57,7 @@ pub fn run<F: Files, S: Source, K: Sink, L: Ledger, M: Ledger>(
         (outside (S.left script.new) (K.held sink.new) (S.faults script.new) (K.faults sink.new)))
         ⊎ ((risen (S.faults script.old) ≤ S.faults script.new) × AnswersTaken (F.contents files.old)
         (outside (S.left script.old) (K.held sink.old) (S.faults script.old) (K.faults sink.old))
-        (outside (S.left script.new) (K.held sink.new) (S.faults script.new) (K.faults sink.new)) (λ _. ⊤) r)) }
+        (outside (S.left script.new) (K.held sink.new) (S.faults script.new) (K.faults sink.new)) (λ taken. length taken < most_script_bytes) r)) }
     ensures write_fault { result ≡ Status.WriteFault → risen (K.faults sink.old) ≤ K.faults sink.new }
     ensures script_full { result ≡ Status.ScriptFull → IfSome (request_of (map string_bytes words.now)) (AnswersTaken (F.contents files.old)
         (outside (S.left script.old) (K.held sink.old) (S.faults script.old) (K.faults sink.old))
@@ -65,8 +71,8 @@ pub fn run<F: Files, S: Source, K: Sink, L: Ledger, M: Ledger>(
         (outside (S.left script.new) (K.held sink.new) (S.faults script.new) (K.faults sink.new))) }
 
     // When it succeeds, and when each refusal has to come.
-    ensures completes { IfSome (request_of (map string_bytes words.now)) (λ r. (bytes : List ℕ) → AllAccepted (F.contents files.old) r
-        → S.left script.old ≡ Some bytes → length bytes < most_script_bytes
+    ensures completes { IfSome (request_of (map string_bytes words.now)) (λ r. AllAccepted (F.contents files.old) r
+        → IfScripted r.subject (HasShortScript (outside (S.left script.old) (K.held sink.old) (S.faults script.old) (K.faults sink.old)))
         → AllStand (F.faults files.old) (F.faults files.new)
         (outside (S.left script.old) (K.held sink.old) (S.faults script.old) (K.faults sink.old))
         (outside (S.left script.new) (K.held sink.new) (S.faults script.new) (K.faults sink.new)) r
@@ -74,12 +80,17 @@ pub fn run<F: Files, S: Source, K: Sink, L: Ledger, M: Ledger>(
     ensures refuses { (kind : FileKind) → IfSome (request_of (map string_bytes words.now)) (λ r.
         FirstRefused (F.contents files.old) kind (files_of r) → FilesStand (F.faults files.old) (F.faults files.new) r
         → (result ≡ refusal_of kind) ⊎ (result ≡ Status.Memory)) }
-    ensures fills { IfSome (request_of (map string_bytes words.now)) (λ r. (bytes : List ℕ) → AllAccepted (F.contents files.old) r
+    ensures fills { IfSome (request_of (map string_bytes words.now)) (λ r. (bytes : List ℕ) → IsScripted r.subject → AllAccepted (F.contents files.old) r
         → S.left script.old ≡ Some bytes → most_script_bytes ≤ length bytes
         → AllStand (F.faults files.old) (F.faults files.new)
         (outside (S.left script.old) (K.held sink.old) (S.faults script.old) (K.faults sink.old))
         (outside (S.left script.new) (K.held sink.new) (S.faults script.new) (K.faults sink.new)) r
         → (result ≡ Status.ScriptFull) ⊎ (result ≡ Status.Memory)) }
+
+    // Where a text is made, no script is read.
+    ensures made { IfSome (request_of (map string_bytes words.now)) (λ r. IfMade r.subject (LeavesScript
+        (outside (S.left script.old) (K.held sink.old) (S.faults script.old) (K.faults sink.old))
+        (outside (S.left script.new) (K.held sink.new) (S.faults script.new) (K.faults sink.new)))) }
 
     // A fault ends the run.
     ensures file_rise { IfSome (request_of (map string_bytes words.now)) (λ r.
@@ -120,10 +131,33 @@ fn run_to_end<F: Files, S: Source, K: Sink>(
         return Status::Words;
     };
     match open_document(alloc, files, &request) {
-        Ok(mut document) => match serve(alloc, &mut document, script, sink) {
+        Ok(mut document) => answer(alloc, request.subject, &mut document, script, sink),
+        Err(status) => status,
+    }
+}
+
+/// Answers the script, or tells of the text that is made.
+fn answer<S: Source, K: Sink>(
+    alloc: Global,
+    subject: Subject<'_>,
+    document: &mut Document<Machine>,
+    script: &mut S,
+    sink: &mut K,
+) -> Status
+    requires in_range { IsInRange (subject_in subject) }
+    requires made { IsMadeText (subject_in subject) document.old.text }
+    ensures ends { IsTextEnd (outside (S.left script.old) (K.held sink.old) (S.faults script.old) (K.faults sink.old))
+        (outside (S.left script.new) (K.held sink.new) (S.faults script.new) (K.faults sink.new))
+        (subject_in subject.entry) (session_in document.old) result }
+{
+    match subject {
+        Subject::TextFile(_) => match serve(alloc, document, script, sink) {
             Ok(()) => Status::Done,
             Err(status) => status,
         },
-        Err(status) => status,
+        Subject::Generated(lines) => match tell(alloc, document, lines, sink) {
+            Ok(()) => Status::Done,
+            Err(status) => status,
+        },
     }
 }

@@ -84,7 +84,7 @@ fn run_counted<L: Ledger, M: Ledger, S: Source, K: Sink>(
     run(alloc, words, files, script, sink, &mut steps, &mut marks)
 }
 
-const CASES: [Case<'static>; 27] = [
+const CASES: [Case<'static>; 32] = [
     // An empty file is one empty line.
     Case {
         words: &["text"],
@@ -281,6 +281,45 @@ const CASES: [Case<'static>; 27] = [
         script: b"{\"tokens\":0}\n{\"tokens\":1}\n{\"tokens\":2}\n",
         wrote: b"{\"opened\":2,\"unread\":0}\n{\"tokens\":[[0,3,[],0]]}\n{\"tokens\":[[0,0,[],0]]}\n{\"refused\":\"line\"}\n",
         status: Status::Done,
+    },
+    // A text that is made: five lines tell of it, and neither a text file nor the script is read.
+    Case {
+        words: &["--make", "1"],
+        text: None,
+        script: b"{\"line\":0}\n",
+        wrote: b"{\"made\":[1,9,7,3]}\n{\"made\":[7,21,13,7]}\n{\"made\":[13,35,15,10]}\n{\"made\":[19,52,22,14]}\n{\"made\":[26,61,27,18]}\n",
+        status: Status::Done,
+    },
+    // In a line that is too long there are no brackets.
+    Case {
+        words: &["--long=1", "--make=0000000006"],
+        text: Some(b"\xff"),
+        script: b"",
+        wrote: b"{\"made\":[6,0,0,0]}\n{\"made\":[12,0,0,0]}\n{\"made\":[18,0,0,0]}\n{\"made\":[24,0,0,0]}\n{\"made\":[31,0,0,0]}\n",
+        status: Status::Done,
+    },
+    // A grammar file that isn't there fails, whatever text is asked for.
+    Case {
+        words: &["--make", "1", "--grammar", "g"],
+        text: None,
+        script: b"",
+        wrote: b"",
+        status: Status::ReadFault,
+    },
+    // A text that is made has from 1 to 100,000 lines, and stands in place of a file.
+    Case {
+        words: &["--make", "100001"],
+        text: None,
+        script: b"",
+        wrote: b"",
+        status: Status::Words,
+    },
+    Case {
+        words: &["text", "--make", "1"],
+        text: Some(b"a"),
+        script: b"",
+        wrote: b"",
+        status: Status::Words,
     },
     // Zeros in front of a number are read.
     Case {

@@ -24,7 +24,8 @@ use Rattle.line_defs.specs.Line.{tokenised, no_grammar}
 use Rattle.document_defs.specs.TextRows.{Settings}
 use Rattle.session_defs.specs.declared.file_kind.FileKind.{FileKind}
 use Rattle.session_defs.specs.declared.file_kind.FileKind.TheVariants as kind
-use Rattle.session_defs.specs.Words.{Request}
+use Rattle.generator_defs.specs.GeneratedText.{generated_text}
+use Rattle.session_defs.specs.Words.{Subject, text_file, generated, Request}
 
 -- ---- grammars
 
@@ -98,15 +99,20 @@ abbrev pub named_if : FileKind → Option (List ℕ) → List NamedFile
 named_if kind None = []
 named_if kind (Some name) = record { kind = kind; name = name } ∷ []
 
+-- a text that is made has no file
+abbrev pub text_name : Subject → Option (List ℕ)
+text_name (text_file name) = Some name
+text_name (generated lines) = None
+
 -- all of them, in the order in which they are opened
 abbrev pub files_of : Request → List NamedFile
-files_of r = record { kind = kind.Text; name = r.text } ∷ (named_if kind.Grammar r.grammar ++ named_if kind.Brackets r.brackets)
+files_of r = named_if kind.Text (text_name r.subject) ++ (named_if kind.Grammar r.grammar ++ named_if kind.Brackets r.brackets)
 
 -- ---- what is open
 
 -- the bytes of the files
 pub record Inputs : Type 0 where
-  pub text : List ℕ
+  pub text : Option (List ℕ)
   pub grammar : Option (List ℕ)
   pub brackets : Option (List ℕ)
 
@@ -144,7 +150,12 @@ abbrev pub session_by : Limits → Option OpenGrammar → List BracketText → L
 session_by limits grammar texts text =
     record { settings = settings_for limits grammar texts; unread = unread_of grammar; text = text }
 
+-- the text at first, of the bytes of its file
+abbrev pub text_at_first : Subject → Option (List ℕ) → List ℕ
+text_at_first (text_file name) file = text_of (unwrap_or file [])
+text_at_first (generated lines) file = generated_text lines
+
 -- what is open once files with these bytes are
-abbrev pub session_of : Limits → Inputs → Session
-session_of limits inputs =
-    session_by limits (option_and_then grammar_of_file inputs.grammar) (texts_of inputs.brackets) (text_of inputs.text)
+abbrev pub session_of : Request → Inputs → Session
+session_of r inputs = session_by r.limits (option_and_then grammar_of_file inputs.grammar) (texts_of inputs.brackets)
+    (text_at_first r.subject inputs.text)

@@ -1,12 +1,13 @@
--- All that the program writes for the files that the words name and a script.
+-- All that the program writes for the words, the files that they name and a script.
 use Rattle.std.specs.Prelude.{ℕ, List, [], ◌∷◌, ◌++◌, map}
-use Rattle.text_pos.specs.declared.limits.Limits.{Limits}
 use Rattle.text_defs.specs.Text.{whole_lines, unfinished}
 use Rattle.script_words.specs.ReplyText.{reply_text}
 use Rattle.script_words.specs.Script.{reading_of}
 use Rattle.session_defs.specs.declared.limits.TheConstants.{MOST_SCRIPT_BYTES}
+use Rattle.session_defs.specs.Words.{Subject, text_file, generated, Request}
 use Rattle.session_defs.specs.Opening.{Inputs, Session, session_of}
 use Rattle.session_defs.specs.Session.{replies_to, opened}
+use Rattle.session_defs.specs.MadeOutput.{made_output}
 
 -- as many bytes of script as are taken at most
 abbrev pub most_script_bytes : ℕ
@@ -26,10 +27,14 @@ abbrev pub written_for : Session → List (List ℕ) → List ℕ
 written_for session lines =
     reply_text (opened session) ++ replies_to session.settings session.text (map reading_of lines)
 
--- what is written where the script is read to its end
-abbrev pub output_of : Limits → Inputs → List ℕ → List ℕ
-output_of limits inputs script = written_for (session_of limits inputs) (script_lines script)
+-- what is written where a script is read to its end; of a text that is made, the summaries, for which none is read
+abbrev pub output_for : Subject → Session → (script : List ℕ) → List ℕ
+output_for (text_file name) session script = written_for session (script_lines script)
+output_for (generated lines) session script = made_output session.settings lines
+
+abbrev pub output_of : Request → Inputs → (script : List ℕ) → List ℕ
+output_of r inputs script = output_for r.subject (session_of r inputs) script
 
 -- what is written for these bytes of a script, of which more may come: each whole line has its reply
-abbrev pub written_so_far : Limits → Inputs → List ℕ → List ℕ
-written_so_far limits inputs taken = written_for (session_of limits inputs) (whole_lines taken)
+abbrev pub written_so_far : Request → Inputs → List ℕ → List ℕ
+written_so_far r inputs taken = written_for (session_of r inputs) (whole_lines taken)

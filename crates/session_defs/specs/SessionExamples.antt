@@ -24,7 +24,7 @@ use Rattle.answer_defs.specs.TokenAnswers.{tokens_in}
 use Rattle.script_words.specs.ReplyText.{reply_text}
 use Rattle.text_pos.specs.declared.limits.Limits.{Limits}
 use Rattle.session_defs.specs.declared.file_kind.FileKind.TheVariants as kind
-use Rattle.session_defs.specs.Words.{request_of, limits_with, text_alone}
+use Rattle.session_defs.specs.Words.{text_file, generated, request_of, limits_with, text_alone}
 use Rattle.session_defs.specs.Opening.{Inputs, settings_for, is_accepted, session_of}
 use Rattle.session_defs.specs.OnLiterals.{runs_on_literals}
 use Rattle.session_defs.specs.Output.{output_of, written_so_far}
@@ -38,7 +38,7 @@ row l f t level own colour = record { at = record { line = l; from = f; to = t }
 
 -- a text without a grammar and a bracket file
 abbrev pub alone : List ℕ → Inputs
-alone text = record { text = text; grammar = None; brackets = None }
+alone text = record { text = Some text; grammar = None; brackets = None }
 
 abbrev pub plain : Limits → Settings
 plain limits = settings_for limits None usual_texts
@@ -167,7 +167,7 @@ pub all_options : request_of
     (codes "brackets" ∷ codes "t" ∷ codes "--tab" ∷ codes "8" ∷ codes "--grammar" ∷ codes "g" ∷ codes "--steps" ∷ codes "100" ∷ codes "--brackets" ∷ codes "-"
     ∷ codes "--nesting" ∷ codes "7" ∷ codes "--long" ∷ codes "1000000" ∷ [])
     ≡ Some (record {
-      text = codes "t";
+      subject = text_file (codes "t");
       grammar = Some (codes "g");
       brackets = Some (codes "-");
       limits = record { nesting = 7; budget = 100; long = 1000000; tab = 8 };
@@ -224,32 +224,49 @@ pub words_without_a_limit : map request_of
     ≡ replicate 8 None
 words_without_a_limit = refl
 
+-- a text that is made, of up to 100,000 lines, with the options of any other text
+pub texts_that_are_made : map (option_map (λ r. r.subject)) (map request_of
+    ((codes "brackets" ∷ codes "--make" ∷ codes "1" ∷ []) ∷ (codes "brackets" ∷ codes "--make=0100000" ∷ codes "--tab" ∷ codes "2" ∷ [])
+    ∷ (codes "brackets" ∷ codes "--grammar" ∷ codes "g" ∷ codes "--make" ∷ codes "7" ∷ codes "--" ∷ []) ∷ []))
+    ≡ Some (generated 1) ∷ Some (generated 100000) ∷ Some (generated 7) ∷ []
+texts_that_are_made = refl
+
+-- a text of no lines, of too many, of a number that is none; a made text twice; and a made text beside a file, before or
+-- behind its name
+pub texts_that_are_not_made : map request_of
+    ((codes "brackets" ∷ codes "--make" ∷ codes "0" ∷ []) ∷ (codes "brackets" ∷ codes "--make" ∷ codes "100001" ∷ [])
+    ∷ (codes "brackets" ∷ codes "--make" ∷ codes "x" ∷ []) ∷ (codes "brackets" ∷ codes "--make=" ∷ [])
+    ∷ (codes "brackets" ∷ codes "--make" ∷ []) ∷ (codes "brackets" ∷ codes "--make=1" ∷ codes "--make=1" ∷ [])
+    ∷ (codes "brackets" ∷ codes "t" ∷ codes "--make" ∷ codes "1" ∷ []) ∷ (codes "brackets" ∷ codes "--make=1" ∷ codes "--" ∷ codes "t" ∷ []) ∷ [])
+    ≡ replicate 8 None
+texts_that_are_not_made = refl
+
 -- ---- sessions
 
 -- a closer takes the last opener of its kind, and the opener between has no partner
 pub session_of_crossing_brackets :
-    output_of (limits_with 200) (alone (codes "([)]")) (line "{\"brackets\":[0,0]}")
+    output_of (text_alone (codes "t") 200) (alone (codes "([)]")) (line "{\"brackets\":[0,0]}")
     ≡ line "{\"opened\":1,\"unread\":0}" ++ line "{\"brackets\":[[0,0,1,0,0,0],[0,1,2,1,0,6],[0,2,3,0,0,0],[0,3,4,0,0,6]]}"
 unfolding serde_json_on_literals chars is_utf8 utf8_valid_len encode digits words_on_literals runs_on_literals
 session_of_crossing_brackets = refl
 
 -- an empty file has one line and no brackets; without a script there is the open reply alone
 pub session_of_an_empty_file :
-    (output_of (limits_with 200) (alone []) (line "{\"brackets\":[0,0]}") ≡ line "{\"opened\":1,\"unread\":0}" ++ line "{\"brackets\":[]}")
-    × (output_of (limits_with 200) (alone []) [] ≡ line "{\"opened\":1,\"unread\":0}")
+    (output_of (text_alone (codes "t") 200) (alone []) (line "{\"brackets\":[0,0]}") ≡ line "{\"opened\":1,\"unread\":0}" ++ line "{\"brackets\":[]}")
+    × (output_of (text_alone (codes "t") 200) (alone []) [] ≡ line "{\"opened\":1,\"unread\":0}")
 unfolding serde_json_on_literals chars is_utf8 utf8_valid_len encode digits words_on_literals runs_on_literals
 session_of_an_empty_file = (refl, refl)
 
 -- an unexpected closer has colour 6; a range may hold a part of the lines; a turn changes nothing
 pub session_of_an_unexpected_closer :
-    output_of (limits_with 200) (alone (10 ∷ codes "a ) b")) (line "{\"brackets\":[0,1]}" ++ line "{\"turn\":5}" ++ line "{\"brackets\":[0,0]}")
+    output_of (text_alone (codes "t") 200) (alone (10 ∷ codes "a ) b")) (line "{\"brackets\":[0,1]}" ++ line "{\"turn\":5}" ++ line "{\"brackets\":[0,0]}")
     ≡ line "{\"opened\":2,\"unread\":0}" ++ line "{\"brackets\":[[1,2,3,0,0,6]]}" ++ line "{\"turned\":true}" ++ line "{\"brackets\":[]}"
 unfolding serde_json_on_literals chars is_utf8 utf8_valid_len encode digits words_on_literals runs_on_literals
 session_of_an_unexpected_closer = refl
 
 -- an opener at the nesting limit has no row, and the closer that it would have had closes another
 pub session_at_the_nesting_limit :
-    output_of (limits_with 2) (alone (codes "((()))")) (line "{\"brackets\":[0,0]}")
+    output_of (text_alone (codes "t") 2) (alone (codes "((()))")) (line "{\"brackets\":[0,0]}")
     ≡ line "{\"opened\":1,\"unread\":0}" ++ line "{\"brackets\":[[0,0,1,0,0,0],[0,1,2,1,1,1],[0,3,4,1,1,1],[0,4,5,0,0,0],[0,5,6,0,0,6]]}"
 unfolding serde_json_on_literals chars is_utf8 utf8_valid_len encode digits words_on_literals runs_on_literals
 session_at_the_nesting_limit = refl
@@ -257,21 +274,21 @@ session_at_the_nesting_limit = refl
 -- each line end ends a line; a refusal changes nothing; an empty line of the script has a reply, and so have
 -- bytes behind the last LF
 pub session_of_four_lines :
-    output_of (limits_with 200) (alone (97 ∷ 13 ∷ 10 ∷ 98 ∷ 13 ∷ 99 ∷ 10 ∷ 100 ∷ [])) (line "{\"line\":4}" ++ line "" ++ line "[]" ++ codes "{\"line\":1}")
+    output_of (text_alone (codes "t") 200) (alone (97 ∷ 13 ∷ 10 ∷ 98 ∷ 13 ∷ 99 ∷ 10 ∷ 100 ∷ [])) (line "{\"line\":4}" ++ line "" ++ line "[]" ++ codes "{\"line\":1}")
     ≡ line "{\"opened\":4,\"unread\":0}" ++ line "{\"refused\":\"line\"}" ++ line "{\"refused\":\"json\"}" ++ line "{\"refused\":\"command\"}" ++ line "{\"line\":\"b\"}"
 unfolding serde_json_on_literals chars is_utf8 utf8_valid_len encode digits words_on_literals runs_on_literals
 session_of_four_lines = refl
 
 -- while more may come, bytes behind the last LF have no reply; of blanks without an LF there is the open reply alone
 pub unfinished_line_has_no_reply :
-    (written_so_far (limits_with 200) (alone (codes "a")) (line "{\"line\":0}" ++ codes "{\"line\":0}") ≡ line "{\"opened\":1,\"unread\":0}" ++ line "{\"line\":\"a\"}")
-    × (written_so_far (limits_with 200) (alone (codes "a")) (replicate 100 32) ≡ line "{\"opened\":1,\"unread\":0}")
+    (written_so_far (text_alone (codes "t") 200) (alone (codes "a")) (line "{\"line\":0}" ++ codes "{\"line\":0}") ≡ line "{\"opened\":1,\"unread\":0}" ++ line "{\"line\":\"a\"}")
+    × (written_so_far (text_alone (codes "t") 200) (alone (codes "a")) (replicate 100 32) ≡ line "{\"opened\":1,\"unread\":0}")
 unfolding serde_json_on_literals chars is_utf8 utf8_valid_len encode digits words_on_literals runs_on_literals
 unfinished_line_has_no_reply = (refl, refl)
 
 -- a range is refused where it ends before it begins or past the last line
 pub ranges_that_are_refused :
-    output_of (limits_with 200) (alone (line "(")) (line "{\"brackets\":[1,0]}" ++ line "{\"brackets\":[0,2]}" ++ line "{\"brackets\":[0,1]}")
+    output_of (text_alone (codes "t") 200) (alone (line "(")) (line "{\"brackets\":[1,0]}" ++ line "{\"brackets\":[0,2]}" ++ line "{\"brackets\":[0,1]}")
     ≡ line "{\"opened\":2,\"unread\":0}" ++ line "{\"refused\":\"line\"}" ++ line "{\"refused\":\"line\"}" ++ line "{\"brackets\":[[0,0,1,0,0,6]]}"
 unfolding serde_json_on_literals chars is_utf8 utf8_valid_len encode digits words_on_literals runs_on_literals
 ranges_that_are_refused = refl
@@ -295,7 +312,7 @@ partners_at_the_nesting_limit = refl
 
 -- a line of as many characters as the limit has no brackets; one with a character less has
 pub session_of_a_long_line :
-    output_of (record { nesting = 200; budget = 100000; long = 4; tab = 4 }) (alone (line "(aa" ++ codes ")aaa")) (line "{\"brackets\":[0,1]}")
+    output_of (record (text_alone (codes "t") 200) { limits = record { nesting = 200; budget = 100000; long = 4; tab = 4 } }) (alone (line "(aa" ++ codes ")aaa")) (line "{\"brackets\":[0,1]}")
     ≡ line "{\"opened\":2,\"unread\":0}" ++ line "{\"brackets\":[[0,0,1,0,0,6]]}"
 unfolding serde_json_on_literals chars is_utf8 utf8_valid_len encode digits words_on_literals runs_on_literals
 session_of_a_long_line = refl
@@ -307,14 +324,14 @@ files_that_are_accepted = refl
 
 -- an edit in a session: both spans of a batch are places of the text before it, and a refused batch changes nothing
 pub edits_of_a_session :
-    output_of (limits_with 200) (alone (codes "abc")) (line "{\"edit\":[[0,0,0,1,\"x\"],[0,2,0,3,\"yy\"]]}" ++ line "{\"edit\":[[0,2,0,3,\"q\"],[0,0,0,1,\"q\"]]}" ++ line "{\"edit\":[]}" ++ line "{\"line\":0}")
+    output_of (text_alone (codes "t") 200) (alone (codes "abc")) (line "{\"edit\":[[0,0,0,1,\"x\"],[0,2,0,3,\"yy\"]]}" ++ line "{\"edit\":[[0,2,0,3,\"q\"],[0,0,0,1,\"q\"]]}" ++ line "{\"edit\":[]}" ++ line "{\"line\":0}")
     ≡ line "{\"opened\":1,\"unread\":0}" ++ line "{\"edited\":1}" ++ line "{\"refused\":\"order\"}" ++ line "{\"edited\":1}" ++ line "{\"line\":\"xbyy\"}"
 unfolding serde_json_on_literals chars is_utf8 utf8_valid_len encode digits words_on_literals runs_on_literals
 edits_of_a_session = refl
 
 -- the bracket at a place, the pair around it and where to jump; a place behind its line and a line that isn't there
 pub session_of_places :
-    output_of (limits_with 200) (alone (codes "()"))
+    output_of (text_alone (codes "t") 200) (alone (codes "()"))
     (line "{\"match\":[0,1]}" ++ line "{\"around\":[0,1]}" ++ line "{\"jump\":[0,2]}" ++ line "{\"around\":[0,0]}" ++ line "{\"level\":[0,1]}"
     ++ line "{\"level\":[0,3]}" ++ line "{\"match\":[1,9]}")
     ≡ line "{\"opened\":1,\"unread\":0}" ++ line "{\"match\":[[0,1,2],[0,0,1]]}" ++ line "{\"around\":[[0,0,1],[0,1,2]]}" ++ line "{\"jump\":[0,0]}"
@@ -324,7 +341,7 @@ session_of_places = refl
 
 -- pairs that reach into a line, the last without closer, and guides
 pub session_of_pairs_and_guides :
-    output_of (limits_with 200) (alone (line "{" ++ line "  (a" ++ line "  )[" ++ codes "}"))
+    output_of (text_alone (codes "t") 200) (alone (line "{" ++ line "  (a" ++ line "  )[" ++ codes "}"))
     (line "{\"pairs\":[2,2]}" ++ line "{\"guides\":[0,3]}" ++ line "{\"pairs\":[2,1]}" ++ line "{\"jump\":[3,1]}")
     ≡ line "{\"opened\":4,\"unread\":0}"
     ++ line "{\"pairs\":[[[0,0,1],[3,0,1],0,0],[[1,2,3],[2,2,3],1,0],[[2,3,4],null,1,0]]}"

@@ -1,11 +1,13 @@
 -- The command line. It is this project's own: the name of a text file and options, in any order. An option has its value
--- behind `=` in the same word, or in the next word; each comes at most once. Behind the word `--` all words are names.
+-- behind `=` in the same word, or in the next word; each comes at most once. Behind the word `--` all words are names. In
+-- place of the name there may be `--make`: then the text is made, of so many lines.
 use Rattle.std.specs.Prelude.{ℕ, ◌+◌, ◌-◌, ◌*◌, ◌==◌, ◌&&◌, ◌||◌, List, [], ◌∷◌, length, codes, fold, Bool, true, not}
 use Rattle.std.specs.Prelude.{nat_lt, nat_le, if◌then◌else◌, Option, Some, None, option_and_then, option_map}
 use Rattle.std.specs.List.{after_first, before_first, list_all, position_or_len}
 use Rattle.std.specs.Str.{bytes_eq}
 use Rattle.text_pos.specs.declared.limits.Limits.{Limits}
 use Rattle.text_defs.specs.Text.{begins_with}
+use Rattle.generator_defs.specs.declared.TheConstants.{MOST_GENERATED_LINES}
 use Rattle.session_defs.specs.declared.limits.TheConstants.{MOST_DIGITS, LEAST_NESTING, MOST_NESTING, USUAL_NESTING}
 use Rattle.session_defs.specs.declared.limits.TheConstants.{LEAST_BUDGET, MOST_BUDGET, USUAL_BUDGET}
 use Rattle.session_defs.specs.declared.limits.TheConstants.{LEAST_LONG, MOST_LONG, USUAL_LONG}
@@ -13,9 +15,14 @@ use Rattle.session_defs.specs.declared.limits.TheConstants.{LEAST_TAB, WIDEST_TA
 
 -- ---- what the words say
 
--- the names of the files, and the limits
+-- whose brackets are asked for: those of a text file, by a script, or those of a text of so many lines that is made
+pub data Subject : Type 0 where
+  text_file : List ℕ → Subject
+  generated : ℕ → Subject
+
+-- the text, the names of the other files, and the limits
 pub record Request : Type 0 where
-  pub text : List ℕ
+  pub subject : Subject
   pub grammar : Option (List ℕ)
   pub brackets : Option (List ℕ)
   pub limits : Limits
@@ -26,7 +33,7 @@ limits_with nesting = record { nesting = nesting; budget = USUAL_BUDGET; long = 
 
 -- a text alone, with the usual limits but for nesting
 abbrev pub text_alone : List ℕ → ℕ → Request
-text_alone name nesting = record { text = name; grammar = None; brackets = None; limits = limits_with nesting }
+text_alone name nesting = record { subject = text_file name; grammar = None; brackets = None; limits = limits_with nesting }
 
 -- ---- single words
 
@@ -67,6 +74,7 @@ pub record Options : Type 0 where
   pub steps : Option (List ℕ)
   pub long : Option (List ℕ)
   pub tab : Option (List ℕ)
+  pub make : Option (List ℕ)
 
 abbrev pub no_options : Options
 no_options = record {
@@ -77,6 +85,7 @@ no_options = record {
   steps = None;
   long = None;
   tab = None;
+  make = None;
 }
 
 -- a value for what has none yet
@@ -96,7 +105,8 @@ with_option given option value =
     else (if bytes_eq option (codes "--steps") then option_map (λ v. record given { steps = v }) (once given.steps value)
     else (if bytes_eq option (codes "--long") then option_map (λ v. record given { long = v }) (once given.long value)
     else (if bytes_eq option (codes "--tab") then option_map (λ v. record given { tab = v }) (once given.tab value)
-    else None)))))
+    else (if bytes_eq option (codes "--make") then option_map (λ v. record given { make = v }) (once given.make value)
+    else None))))))
 
 -- ---- words, one after the other
 
@@ -151,15 +161,21 @@ limits_in given =
     (number_or USUAL_BUDGET LEAST_BUDGET MOST_BUDGET given.steps))
     (number_or USUAL_NESTING LEAST_NESTING MOST_NESTING given.nesting)
 
--- what a name and options ask for
-abbrev pub request_with : List ℕ → Options → Option Request
-request_with name given =
-    if nat_lt 0 (length name) && (is_name_or_none given.grammar && is_name_or_none given.brackets)
-    then option_map (λ limits. record { text = name; grammar = given.grammar; brackets = given.brackets; limits = limits })
+-- the name of a text file, which isn't empty, or how many lines a text is made of: one of the two
+abbrev pub subject_of : (name : Option (List ℕ)) → (lines : Option (List ℕ)) → Option Subject
+subject_of (Some name) None = if nat_lt 0 (length name) then Some (text_file name) else None
+subject_of None (Some lines) = if is_within 1 MOST_GENERATED_LINES lines then Some (generated (value_of lines)) else None
+subject_of _ _ = None
+
+-- what the options ask for, of this text
+abbrev pub request_with : Subject → Options → Option Request
+request_with subject given =
+    if is_name_or_none given.grammar && is_name_or_none given.brackets
+    then option_map (λ limits. record { subject = subject; grammar = given.grammar; brackets = given.brackets; limits = limits })
     (limits_in given) else None
 
 abbrev pub asked_for : Options → Option Request
-asked_for given = option_and_then (λ name. request_with name given) given.text
+asked_for given = option_and_then (λ subject. request_with subject given) (subject_of given.text given.make)
 
 -- what the words ask for, of which the first is the program's name; None where they are no command line
 abbrev pub request_of : List (List ℕ) → Option Request

@@ -1,7 +1,7 @@
 use Rattle.bracket_program.proofs.RunLaws.{run-done, run-words, run-refused, run-read_fault}
 use Rattle.bracket_program.proofs.RunLaws.{run-write_fault, run-script_full, run-untouched, run-front}
 use Rattle.bracket_program.proofs.RunLaws.{run-completes_for, run-fills_for, run-file_rise, run-script_rise}
-use Rattle.bracket_program.proofs.RunLaws.{run-sink_rise, run-files, run-unopened, run-refuses_for}
+use Rattle.bracket_program.proofs.RunLaws.{run-sink_rise, run-files, run-made, run-unopened, run-refuses_for}
 use Rattle.bracket_program.proofs.run.run.Goals as goal
 
 pub returns-clause-done : goal.returns-clause-done
@@ -36,6 +36,9 @@ returns-clause-refuses g c = λ k. run-refuses_for _ _ _ _ _ _ _ c.run_to_end.en
 
 pub returns-clause-fills : goal.returns-clause-fills
 returns-clause-fills g c = run-fills_for _ _ _ _ _ _ _ c.run_to_end.ensures.ends
+
+pub returns-clause-made : goal.returns-clause-made
+returns-clause-made g c = run-made _ _ _ _ _ _ _ c.run_to_end.ensures.ends
 
 pub returns-clause-file_rise : goal.returns-clause-file_rise
 returns-clause-file_rise g c = run-file_rise _ _ _ _ _ _ _ c.run_to_end.ensures.ends

@@ -1,6 +1,6 @@
-use Rattle.std.proofs.Common.{◌≡◌, ◌∙◌, ap, subst, refl, arith}
+use Rattle.std.proofs.Common.{◌≡◌, ◌≤◌, ◌∙◌, ap, subst, refl, arith}
 use Rattle.std.proofs.lemmas.Result.{err_from_is_err_and}
-use Rattle.piece_io.specs.Told.{appended}
+use Rattle.piece_io.specs.Told.{appended, risen}
 use Rattle.script_words.specs.ReplyText.{reply_text}
 use Rattle.session_defs.specs.Output.{most_script_bytes}
 use Rattle.bracket_program.specs.Ends.{outside, WritesFront}
@@ -127,12 +127,20 @@ returns-in_err-reply_to_lines-2-clause-ends g c =
     c.in-Ok.ensures.gives c.in_ok-feed.ensures.ok c.in_ok-feed.ensures.ended
     c.in_err-reply_to_lines-2.ensures.front))
 
+pub returns-in_default-clause-ends : goal.returns-in_default-clause-ends
+returns-in_default-clause-ends g c =
+    let serving = c.loop-taken.invariant.serving in (
+      serving-cut serving c.in_default.ensures.stays refl refl,
+      omega (arith, serving.count, c.loop-taken-test.true),
+      subst (λ n. risen n ≤ g.S.Source.faults c.read_piece.new.script) serving.reads_stand c.in_default.ensures.rises,
+    )
+
 pub returns-clause-ends : goal.returns-clause-ends
 returns-clause-ends g c =
     let serving = c.loop-taken.invariant.serving in
     let full : c.loop-taken.taken ≡ most_script_bytes =
     omega (arith, c.loop-taken.invariant.few, c.loop-taken-test.false) in
-    (serving-cut serving c.loop-taken.invariant.few refl refl refl, serving.count ∙ full, serving.reads_stand)
+    (serving-cut serving refl refl refl, serving.count ∙ full, serving.reads_stand)
 
 pub returns-in_err-cutter-clause-ends : goal.returns-in_err-cutter-clause-ends
 returns-in_err-cutter-clause-ends g c =

@@ -1,6 +1,8 @@
-ghost use Rattle.std.specs.Prelude.{◌≡◌, ◌≤◌, ℕ, map, option_map, string_bytes, Some, None, if◌then◌else◌};
-ghost use Rattle.session_defs.specs.Words.{asked_for, request_of, request_with, is_plain, is_digit, is_number, is_name_or_none, is_within, limits_in, no_options, number_or, once, parted, plain_words, said, value_of, with_option, with_text};
+ghost use Rattle.std.specs.Prelude.{◌≡◌, ◌≤◌, ℕ, map, option_map, string_bytes, Some, None, IfSome, if◌then◌else◌};
+ghost use Rattle.session_defs.specs.Words.{asked_for, request_of, request_with, is_plain, is_digit, is_number, is_name_or_none, is_within, limits_in, no_options, number_or, once, parted, plain_words, said, subject_of, value_of, with_option, with_text};
+ghost use Rattle.command_line.specs.Subjects.{IsInRange, subject_in};
 
+use generator_defs::MOST_GENERATED_LINES;
 use session_defs::{
     LEAST_BUDGET, LEAST_LONG, LEAST_NESTING, LEAST_TAB, MOST_BUDGET, MOST_DIGITS, MOST_LONG,
     MOST_NESTING, USUAL_BUDGET, USUAL_LONG, USUAL_NESTING, USUAL_TAB, WIDEST_TAB,
@@ -8,10 +10,19 @@ use session_defs::{
 use std::marker::Model;
 use text_pos::Limits;
 
-/// What the words ask for: the names of files, and limits.
+/// Whose brackets are asked for.
+#[derive(Clone, Copy)]
+pub enum Subject<'a> {
+    /// Those of the text file of this name, by a script.
+    TextFile(&'a str),
+    /// Those of a text of so many lines that is made.
+    Generated(u32),
+}
+
+/// What the words ask for: a text, the names of the other files, and limits.
 #[derive(Drop)]
 pub struct Request<'a> {
-    pub text: &'a str,
+    pub subject: Subject<'a>,
     pub grammar: Option<&'a str>,
     pub brackets: Option<&'a str>,
     pub limits: Limits,
@@ -20,11 +31,12 @@ pub struct Request<'a> {
 impl<'a> Model for Request<'a> {
     ghost use Rattle.std.specs.Prelude.{option_map};
     ghost use Rattle.session_defs.specs.Words.{Request as Asked};
+    ghost use Rattle.command_line.specs.Subjects.{subject_in};
 
     ghost Value = { Asked };
 
     ghost view = { λ r. record {
-      text = r.text.now;
+      subject = subject_in r.subject;
       grammar = option_map (λ name. name.now) r.grammar;
       brackets = option_map (λ name. name.now) r.brackets;
       limits = r.limits;
@@ -41,6 +53,7 @@ struct Options<'a> {
     steps: Option<&'a str>,
     long: Option<&'a str>,
     tab: Option<&'a str>,
+    make: Option<&'a str>,
 }
 
 impl<'a> Model for Options<'a> {
@@ -57,11 +70,22 @@ impl<'a> Model for Options<'a> {
       steps = option_map (λ value. value.now) o.steps;
       long = option_map (λ value. value.now) o.long;
       tab = option_map (λ value. value.now) o.tab;
+      make = option_map (λ value. value.now) o.make;
     } };
 }
 
-/// What the words ask for, of which the first is the program's name. None where they are no command line.
+/// What the words ask for, of which the first is the program's name. None where they are no command line. Its numbers are
+/// in their ranges.
 pub fn read_words(words: &[String]) -> Option<Request<'_>>
+    ensures request { result ≡ request_of (map string_bytes words.now) }
+    ensures some_columns { IfSome result (λ r. LEAST_TAB ≤ r.limits.tab) }
+    ensures few_columns { IfSome result (λ r. r.limits.tab ≤ WIDEST_TAB) }
+    ensures in_range { IfSome result (λ r. IsInRange r.subject) }
+{
+    request_of(words)
+}
+
+fn request_of(words: &[String]) -> Option<Request<'_>>
     ensures { result ≡ request_of (map string_bytes words.now) }
 {
     match words {
@@ -149,6 +173,7 @@ fn no_options<'a>() -> Options<'a>
         steps: None,
         long: None,
         tab: None,
+        make: None,
     }
 }
 
@@ -169,6 +194,8 @@ fn with_option<'a>(given: Options<'a>, option: &str, value: &'a str) -> Option<O
         options.long = once(options.long, value)?;
     } else if option == "--tab" {
         options.tab = once(options.tab, value)?;
+    } else if option == "--make" {
+        options.make = once(options.make, value)?;
     } else {
         return None;
     }
@@ -188,19 +215,49 @@ fn once<'a>(earlier: Option<&'a str>, value: &'a str) -> Option<Option<&'a str>>
 fn asked_for(given: Options<'_>) -> Option<Request<'_>>
     ensures { result ≡ asked_for given.entry }
 {
-    let name = given.text?;
-    request_with(name, given)
+    let subject = subject_of(given.text, given.make)?;
+    request_with(subject, given)
 }
 
-/// What a name and options ask for.
-fn request_with<'a>(name: &'a str, given: Options<'a>) -> Option<Request<'a>>
-    ensures { result ≡ request_with name.now given.entry }
+/// The text, of a file or made: one of the two.
+fn subject_of<'a>(name: Option<&'a str>, lines: Option<&str>) -> Option<Subject<'a>>
+    ensures { option_map subject_in result ≡ subject_of (option_map (λ n. n.now) name.entry) (option_map (λ n. n.now) lines.entry) }
 {
-    if name.is_empty() || !is_name_or_none(given.grammar) || !is_name_or_none(given.brackets) {
+    match (name, lines) {
+        (Some(name), None) => file_of(name),
+        (None, Some(lines)) => generated_of(lines),
+        _ => None,
+    }
+}
+
+/// The text of a file, whose name isn't empty.
+fn file_of(name: &str) -> Option<Subject<'_>>
+    ensures { option_map subject_in result ≡ subject_of (Some name.now) None }
+{
+    if name.is_empty() {
+        None
+    } else {
+        Some(Subject::TextFile(name))
+    }
+}
+
+/// A text that is made, of a number of lines.
+fn generated_of<'a>(lines: &str) -> Option<Subject<'a>>
+    ensures { option_map subject_in result ≡ subject_of None (Some lines.now) }
+{
+    let lines = number_within(1, MOST_GENERATED_LINES, lines)?;
+    Some(Subject::Generated(lines))
+}
+
+/// What the options ask for, of this text.
+fn request_with<'a>(subject: Subject<'a>, given: Options<'a>) -> Option<Request<'a>>
+    ensures { result ≡ request_with (subject_in subject.entry) given.entry }
+{
+    if !is_name_or_none(given.grammar) || !is_name_or_none(given.brackets) {
         return None;
     }
     Some(Request {
-        text: name,
+        subject,
         grammar: given.grammar,
         brackets: given.brackets,
         limits: limits_in(given)?,

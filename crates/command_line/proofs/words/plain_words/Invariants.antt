@@ -1,7 +1,7 @@
 use Rattle.std.proofs.Common.{◌≡◌, map, length}
 use Rattle.std.specs.Prelude.{string_bytes}
 use Rattle.session_defs.specs.Words.{plain_words}
-use Rattle.bracket_program.proofs.words.plain_words.Given as goal
+use Rattle.command_line.proofs.words.plain_words.Given as goal
 
 -- the words that are left give the same behind those so far
 abbrev pub invariant-loop-left : goal.invariant-loop-left

@@ -1,5 +1,5 @@
-use Rattle.bracket_program.proofs.WordLaws.{step_plain, step_equals, step_next}
-use Rattle.bracket_program.proofs.words.said.Goals as goal
+use Rattle.command_line.proofs.WordLaws.{step_plain, step_equals, step_next}
+use Rattle.command_line.proofs.words.said.Goals as goal
 
 pub loop-left-preserved-then-is_plain : goal.loop-left-preserved-then-is_plain
 loop-left-preserved-then-is_plain c =

@@ -2,7 +2,7 @@
 use Rattle.std.proofs.Common.{◌≡◌, ◌≤◌, ◌-◌, List, [], ◌∷◌, length, map, get_or, take, drop, sym, ap, subst, ◌∙◌, arith}
 use Rattle.std.proofs.Common.{Bool, true, false, ◌&&◌, refl}
 use Rattle.std.specs.Prelude.{ℕ, Option, Some, None, String, string_bytes, option_and_then, option_map, nat_le, nat_lt}
-use Rattle.std.specs.Prelude.{if◌then◌else◌, codes}
+use Rattle.std.specs.Prelude.{if◌then◌else◌, codes, IfSome}
 use Rattle.std.specs.Str.{bytes_eq}
 use Rattle.std.proofs.Math.Seq.{take-length}
 use Rattle.std.proofs.lemmas.Bool.Decides.{nat_tests}
@@ -12,7 +12,10 @@ use Rattle.session_defs.specs.declared.limits.TheConstants.{USUAL_NESTING, LEAST
 use Rattle.session_defs.specs.declared.limits.TheConstants.{USUAL_BUDGET, LEAST_BUDGET, MOST_BUDGET}
 use Rattle.session_defs.specs.declared.limits.TheConstants.{USUAL_LONG, LEAST_LONG, MOST_LONG}
 use Rattle.session_defs.specs.declared.limits.TheConstants.{USUAL_TAB, LEAST_TAB, WIDEST_TAB}
-use Rattle.session_defs.specs.Words.{Request, Options, no_options, asked_for, request_of, request_with, with_option}
+use Rattle.session_defs.specs.Words.{Subject, Request, Options, no_options, asked_for, request_of, request_with, with_option}
+use Rattle.session_defs.specs.Words.{text_file, generated, subject_of}
+use Rattle.generator_defs.specs.declared.TheConstants.{MOST_GENERATED_LINES}
+use Rattle.command_line.specs.Subjects.{IsInRange}
 use Rattle.session_defs.specs.Words.{is_name_or_none, is_number, is_plain, is_within, limits_in, number_or, value_of}
 use Rattle.session_defs.specs.Words.{parted, plain_words, said, with_text, with_value, with_value_at_last}
 
@@ -160,32 +163,84 @@ limits_tab given limits e =
     (number_or USUAL_LONG LEAST_LONG MOST_LONG given.long)
     (number_or USUAL_TAB LEAST_TAB WIDEST_TAB given.tab) limits e)
 
-abbrev request_by : List ℕ → Options → Bool → Option Limits → Option Request
-request_by name given fits limits =
-    if fits then option_map (λ limits. record { text = name; grammar = given.grammar; brackets = given.brackets; limits = limits }) limits
+abbrev request_by : Subject → Options → Bool → Option Limits → Option Request
+request_by subject given fits limits =
+    if fits then option_map (λ limits. record { subject = subject; grammar = given.grammar; brackets = given.brackets; limits = limits }) limits
     else None
 
-limits_of_request : (name : List ℕ) (given : Options) (fits : Bool) (limits : Option Limits) (r : Request)
-    → request_by name given fits limits ≡ Some r → limits ≡ Some r.limits
-limits_of_request name given false limits r e = cc
-limits_of_request name given true None r e = cc
-limits_of_request name given true (Some limits) r e = ap (option_map (λ (r : Request). r.limits)) e
+limits_of_request : (subject : Subject) (given : Options) (fits : Bool) (limits : Option Limits) (r : Request)
+    → request_by subject given fits limits ≡ Some r → limits ≡ Some r.limits
+limits_of_request subject given false limits r e = cc
+limits_of_request subject given true None r e = cc
+limits_of_request subject given true (Some limits) r e = ap (option_map (λ (r : Request). r.limits)) e
 
-with_name : (name : Option (List ℕ)) (given : Options) (r : Request)
-    → option_and_then (λ name. request_with name given) name ≡ Some r
+with_subject : (subject : Option Subject) (given : Options) (r : Request)
+    → option_and_then (λ subject. request_with subject given) subject ≡ Some r
     → (LEAST_TAB ≤ r.limits.tab) × (r.limits.tab ≤ WIDEST_TAB)
-with_name None given r e = cc
-with_name (Some name) given r e =
-    limits_tab given r.limits (limits_of_request name given
-    (nat_lt 0 (length name) && (is_name_or_none given.grammar && is_name_or_none given.brackets)) (limits_in given) r e)
+with_subject None given r e = cc
+with_subject (Some subject) given r e =
+    limits_tab given r.limits (limits_of_request subject given
+    (is_name_or_none given.grammar && is_name_or_none given.brackets) (limits_in given) r e)
 
 behind_options : (given : Option Options) (r : Request) → option_and_then asked_for given ≡ Some r
     → (LEAST_TAB ≤ r.limits.tab) × (r.limits.tab ≤ WIDEST_TAB)
 behind_options None r e = cc
-behind_options (Some given) r e = with_name given.text given r e
+behind_options (Some given) r e = with_subject (subject_of given.text given.make) given r e
 
 -- a tab has as many columns as it may have
 pub request_tab : (words : List (List ℕ)) (r : Request) → request_of words ≡ Some r
     → (LEAST_TAB ≤ r.limits.tab) × (r.limits.tab ≤ WIDEST_TAB)
 request_tab [] r e = cc
 request_tab (program ∷ words) r e = behind_options (said no_options words) r e
+
+-- a text that is made has as many lines as it may have
+in_range : (name lines : Option (List ℕ)) (subject : Subject) → subject_of name lines ≡ Some subject
+    → IsInRange subject
+in_range (Some name) (Some lines) subject e = cc
+in_range None None subject e = cc
+in_range (Some name) None subject e = named_in_range (nat_lt 0 (length name)) subject e
+  where
+    named_in_range : (is : Bool) (subject : Subject)
+        → (if is then Some (text_file name) else None) ≡ Some subject → IsInRange subject
+    named_in_range false subject e = cc
+    named_in_range true subject e = let same : text_file name ≡ subject = cc in subst IsInRange same tt
+in_range None (Some lines) subject e =
+    generated_in_range (is_within 1 MOST_GENERATED_LINES lines)
+    (within_bounds 1 MOST_GENERATED_LINES (value_of lines) (is_number lines)) subject e
+  where
+    generated_in_range : (is : Bool) → (is ≡ true → (1 ≤ value_of lines) × (value_of lines ≤ MOST_GENERATED_LINES))
+        → (subject : Subject) → (if is then Some (generated (value_of lines)) else None) ≡ Some subject
+        → IsInRange subject
+    generated_in_range false h subject e = cc
+    generated_in_range true h subject e =
+        let same : generated (value_of lines) ≡ subject = cc in subst IsInRange same (h refl)
+
+subject_of_request : (subject : Subject) (given : Options) (fits : Bool) (limits : Option Limits) (r : Request)
+    → request_by subject given fits limits ≡ Some r → Some subject ≡ Some r.subject
+subject_of_request subject given false limits r e = cc
+subject_of_request subject given true None r e = cc
+subject_of_request subject given true (Some limits) r e = ap (option_map (λ (r : Request). r.subject)) e
+
+with_range : (name lines : Option (List ℕ)) (given : Options) (subject : Option Subject) (r : Request)
+    → subject_of name lines ≡ subject → option_and_then (λ subject. request_with subject given) subject ≡ Some r
+    → IsInRange r.subject
+with_range name lines given None r s e = cc
+with_range name lines given (Some subject) r s e =
+    in_range name lines r.subject (s ∙ subject_of_request subject given
+    (is_name_or_none given.grammar && is_name_or_none given.brackets) (limits_in given) r e)
+
+range_behind_options : (given : Option Options) (r : Request) → option_and_then asked_for given ≡ Some r
+    → IsInRange r.subject
+range_behind_options None r e = cc
+range_behind_options (Some given) r e =
+    with_range given.text given.make given (subject_of given.text given.make) r refl e
+
+pub request_range : (words : List (List ℕ)) (r : Request) → request_of words ≡ Some r → IsInRange r.subject
+request_range [] r e = cc
+request_range (program ∷ words) r e = range_behind_options (said no_options words) r e
+
+-- what holds of a request that words ask for
+pub if_some : (words : List (List ℕ)) (asked : Option Request) (P : Request → Type 0)
+    → ((r : Request) → request_of words ≡ Some r → P r) → asked ≡ request_of words → IfSome asked P
+if_some words None P h e = tt
+if_some words (Some r) P h e = h r (sym e)

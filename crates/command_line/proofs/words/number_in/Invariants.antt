@@ -1,7 +1,7 @@
 use Rattle.std.proofs.Common.{◌≡◌, ◌<◌, ◌^◌, take, true}
 use Rattle.std.specs.List.{list_all}
 use Rattle.session_defs.specs.Words.{is_digit, value_of}
-use Rattle.bracket_program.proofs.words.number_in.Given as goal
+use Rattle.command_line.proofs.words.number_in.Given as goal
 
 -- the characters so far are digits, and their number is small
 abbrev pub invariant-loop-c : goal.invariant-loop-c
