@@ -306,7 +306,7 @@ const CASES: [Case<'static>; 32] = [
         wrote: b"",
         status: Status::ReadFault,
     },
-    // A text that is made has from 1 to 100,000 lines, and stands in place of a file.
+    // A text that is made has from 1 to 100,000 lines.
     Case {
         words: &["--make", "100001"],
         text: None,
@@ -314,8 +314,16 @@ const CASES: [Case<'static>; 32] = [
         wrote: b"",
         status: Status::Words,
     },
+    // A file that is named beside it is named in vain, if its name isn't empty.
     Case {
         words: &["text", "--make", "1"],
+        text: None,
+        script: b"",
+        wrote: b"{\"made\":[1,9,7,3]}\n{\"made\":[7,21,13,7]}\n{\"made\":[13,35,15,10]}\n{\"made\":[19,52,22,14]}\n{\"made\":[26,61,27,18]}\n",
+        status: Status::Done,
+    },
+    Case {
+        words: &["", "--make", "1"],
         text: Some(b"a"),
         script: b"",
         wrote: b"",

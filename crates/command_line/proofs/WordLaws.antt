@@ -13,7 +13,7 @@ use Rattle.session_defs.specs.declared.limits.TheConstants.{USUAL_BUDGET, LEAST_
 use Rattle.session_defs.specs.declared.limits.TheConstants.{USUAL_LONG, LEAST_LONG, MOST_LONG}
 use Rattle.session_defs.specs.declared.limits.TheConstants.{USUAL_TAB, LEAST_TAB, WIDEST_TAB}
 use Rattle.session_defs.specs.Words.{Subject, Request, Options, no_options, asked_for, request_of, request_with, with_option}
-use Rattle.session_defs.specs.Words.{text_file, generated, subject_of}
+use Rattle.session_defs.specs.Words.{text_file, generated, made_of, subject_of}
 use Rattle.generator_defs.specs.declared.TheConstants.{MOST_GENERATED_LINES}
 use Rattle.command_line.specs.Subjects.{IsInRange}
 use Rattle.session_defs.specs.Words.{is_name_or_none, is_number, is_plain, is_within, limits_in, number_or, value_of}
@@ -194,9 +194,20 @@ request_tab [] r e = cc
 request_tab (program ∷ words) r e = behind_options (said no_options words) r e
 
 -- a text that is made has as many lines as it may have
+made_in_range : (lines : List ℕ) (subject : Subject) → made_of lines ≡ Some subject → IsInRange subject
+made_in_range lines subject e =
+    by_number (is_within 1 MOST_GENERATED_LINES lines)
+    (within_bounds 1 MOST_GENERATED_LINES (value_of lines) (is_number lines)) subject e
+  where
+    by_number : (is : Bool) → (is ≡ true → (1 ≤ value_of lines) × (value_of lines ≤ MOST_GENERATED_LINES))
+        → (subject : Subject) → (if is then Some (generated (value_of lines)) else None) ≡ Some subject
+        → IsInRange subject
+    by_number false h subject e = cc
+    by_number true h subject e =
+        let same : generated (value_of lines) ≡ subject = cc in subst IsInRange same (h refl)
+
 in_range : (name lines : Option (List ℕ)) (subject : Subject) → subject_of name lines ≡ Some subject
     → IsInRange subject
-in_range (Some name) (Some lines) subject e = cc
 in_range None None subject e = cc
 in_range (Some name) None subject e = named_in_range (nat_lt 0 (length name)) subject e
   where
@@ -204,16 +215,12 @@ in_range (Some name) None subject e = named_in_range (nat_lt 0 (length name)) su
         → (if is then Some (text_file name) else None) ≡ Some subject → IsInRange subject
     named_in_range false subject e = cc
     named_in_range true subject e = let same : text_file name ≡ subject = cc in subst IsInRange same tt
-in_range None (Some lines) subject e =
-    generated_in_range (is_within 1 MOST_GENERATED_LINES lines)
-    (within_bounds 1 MOST_GENERATED_LINES (value_of lines) (is_number lines)) subject e
+in_range None (Some lines) subject e = made_in_range lines subject e
+in_range (Some name) (Some lines) subject e = beside_in_range (nat_lt 0 (length name)) e
   where
-    generated_in_range : (is : Bool) → (is ≡ true → (1 ≤ value_of lines) × (value_of lines ≤ MOST_GENERATED_LINES))
-        → (subject : Subject) → (if is then Some (generated (value_of lines)) else None) ≡ Some subject
-        → IsInRange subject
-    generated_in_range false h subject e = cc
-    generated_in_range true h subject e =
-        let same : generated (value_of lines) ≡ subject = cc in subst IsInRange same (h refl)
+    beside_in_range : (is : Bool) → (if is then made_of lines else None) ≡ Some subject → IsInRange subject
+    beside_in_range false e = cc
+    beside_in_range true e = made_in_range lines subject e
 
 subject_of_request : (subject : Subject) (given : Options) (fits : Bool) (limits : Option Limits) (r : Request)
     → request_by subject given fits limits ≡ Some r → Some subject ≡ Some r.subject

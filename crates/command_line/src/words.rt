@@ -219,14 +219,15 @@ fn asked_for(given: Options<'_>) -> Option<Request<'_>>
     request_with(subject, given)
 }
 
-/// The text, of a file or made: one of the two.
+/// The text of a file, or one that is made. A file that is named beside that is named in vain.
 fn subject_of<'a>(name: Option<&'a str>, lines: Option<&str>) -> Option<Subject<'a>>
     ensures { option_map subject_in result ≡ subject_of (option_map (λ n. n.now) name.entry) (option_map (λ n. n.now) lines.entry) }
 {
     match (name, lines) {
-        (Some(name), None) => file_of(name),
+        (None, None) => None,
         (None, Some(lines)) => generated_of(lines),
-        _ => None,
+        (Some(name), None) => file_of(name),
+        (Some(name), Some(lines)) => generated_beside(name, lines),
     }
 }
 
@@ -238,6 +239,17 @@ fn file_of(name: &str) -> Option<Subject<'_>>
         None
     } else {
         Some(Subject::TextFile(name))
+    }
+}
+
+/// A text that is made, beside the name of a file, which isn't empty and isn't opened.
+fn generated_beside<'a>(name: &str, lines: &str) -> Option<Subject<'a>>
+    ensures { option_map subject_in result ≡ subject_of (Some name.now) (Some lines.now) }
+{
+    if name.is_empty() {
+        None
+    } else {
+        generated_of(lines)
     }
 }
 

@@ -224,20 +224,22 @@ pub words_without_a_limit : map request_of
     ≡ replicate 8 None
 words_without_a_limit = refl
 
--- a text that is made, of up to 100,000 lines, with the options of any other text
+-- a text that is made, of up to 100,000 lines, with the options of any other text; a file that is named before or behind
+-- that is named in vain
 pub texts_that_are_made : map (option_map (λ r. r.subject)) (map request_of
     ((codes "brackets" ∷ codes "--make" ∷ codes "1" ∷ []) ∷ (codes "brackets" ∷ codes "--make=0100000" ∷ codes "--tab" ∷ codes "2" ∷ [])
-    ∷ (codes "brackets" ∷ codes "--grammar" ∷ codes "g" ∷ codes "--make" ∷ codes "7" ∷ codes "--" ∷ []) ∷ []))
-    ≡ Some (generated 1) ∷ Some (generated 100000) ∷ Some (generated 7) ∷ []
+    ∷ (codes "brackets" ∷ codes "--grammar" ∷ codes "g" ∷ codes "--make" ∷ codes "7" ∷ codes "--" ∷ [])
+    ∷ (codes "brackets" ∷ codes "t" ∷ codes "--make" ∷ codes "1" ∷ []) ∷ (codes "brackets" ∷ codes "--make=1" ∷ codes "--" ∷ codes "t" ∷ []) ∷ []))
+    ≡ Some (generated 1) ∷ Some (generated 100000) ∷ Some (generated 7) ∷ Some (generated 1) ∷ Some (generated 1) ∷ []
 texts_that_are_made = refl
 
--- a text of no lines, of too many, of a number that is none; a made text twice; and a made text beside a file, before or
--- behind its name
+-- a text of no lines, of too many, of a number that is none; a made text twice; and a made text beside an empty name or
+-- two names
 pub texts_that_are_not_made : map request_of
     ((codes "brackets" ∷ codes "--make" ∷ codes "0" ∷ []) ∷ (codes "brackets" ∷ codes "--make" ∷ codes "100001" ∷ [])
     ∷ (codes "brackets" ∷ codes "--make" ∷ codes "x" ∷ []) ∷ (codes "brackets" ∷ codes "--make=" ∷ [])
     ∷ (codes "brackets" ∷ codes "--make" ∷ []) ∷ (codes "brackets" ∷ codes "--make=1" ∷ codes "--make=1" ∷ [])
-    ∷ (codes "brackets" ∷ codes "t" ∷ codes "--make" ∷ codes "1" ∷ []) ∷ (codes "brackets" ∷ codes "--make=1" ∷ codes "--" ∷ codes "t" ∷ []) ∷ [])
+    ∷ (codes "brackets" ∷ [] ∷ codes "--make" ∷ codes "1" ∷ []) ∷ (codes "brackets" ∷ codes "t" ∷ codes "--make=1" ∷ codes "u" ∷ []) ∷ [])
     ≡ replicate 8 None
 texts_that_are_not_made = refl
 

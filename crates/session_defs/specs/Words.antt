@@ -161,11 +161,16 @@ limits_in given =
     (number_or USUAL_BUDGET LEAST_BUDGET MOST_BUDGET given.steps))
     (number_or USUAL_NESTING LEAST_NESTING MOST_NESTING given.nesting)
 
--- the name of a text file, which isn't empty, or how many lines a text is made of: one of the two
+-- a text of so many lines that is made
+abbrev pub made_of : (lines : List ℕ) → Option Subject
+made_of lines = if is_within 1 MOST_GENERATED_LINES lines then Some (generated (value_of lines)) else None
+
+-- the text of a file, or one that is made, of so many lines; a file that is named beside these is named in vain
 abbrev pub subject_of : (name : Option (List ℕ)) → (lines : Option (List ℕ)) → Option Subject
+subject_of None None = None
+subject_of None (Some lines) = made_of lines
 subject_of (Some name) None = if nat_lt 0 (length name) then Some (text_file name) else None
-subject_of None (Some lines) = if is_within 1 MOST_GENERATED_LINES lines then Some (generated (value_of lines)) else None
-subject_of _ _ = None
+subject_of (Some name) (Some lines) = if nat_lt 0 (length name) then made_of lines else None
 
 -- what the options ask for, of this text
 abbrev pub request_with : Subject → Options → Option Request
