@@ -8,5 +8,6 @@ pub mod Single
 pub mod Pairs
 pub mod Reused
 pub mod Sources
+pub mod Starting
 pub mod Stretch
 pub mod Within

@@ -1,4 +1,5 @@
 pub mod AddLaws
+pub mod Olds
 pub mod Parsing
 pub mod Reusing
 pub mod Whole

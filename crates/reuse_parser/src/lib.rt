@@ -4,6 +4,7 @@
 mod gather;
 pub mod laws;
 mod list;
+mod old;
 mod place;
 pub mod whole;
 
