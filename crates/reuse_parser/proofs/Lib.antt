@@ -1,6 +1,8 @@
 pub mod AheadOf
 pub mod Adding
 pub mod Found
+pub mod Gathering
+pub mod Going
 pub mod Loops
 pub mod Marks
 pub mod Moved

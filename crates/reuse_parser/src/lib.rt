@@ -6,6 +6,7 @@ pub mod laws;
 mod list;
 mod old;
 mod place;
+mod relist;
 pub mod whole;
 
 pub use laws::{new_nodes_add, old_nodes_add};
