@@ -4,6 +4,7 @@ pub mod Found
 pub mod Gathering
 pub mod Going
 pub mod Loops
+pub mod Made
 pub mod Marks
 pub mod Moved
 pub mod Single
@@ -11,5 +12,6 @@ pub mod Pairs
 pub mod Reused
 pub mod Sources
 pub mod Starting
+pub mod Stepping
 pub mod Stretch
 pub mod Within
