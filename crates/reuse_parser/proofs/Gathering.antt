@@ -27,7 +27,7 @@ use Rattle.reuse_parser.proofs.Pairs.{stands_within, kind_above, above_kept, non
 use Rattle.reuse_parser.proofs.Adding.{IsMet, met}
 
 -- ---- trees and their leaves
-total_all : (ts : List Tree) → total (all_leaves ts) ≡ total ts
+pub total_all : (ts : List Tree) → total (all_leaves ts) ≡ total ts
 total_all [] = refl
 total_all (t ∷ ts) = total_append (leaves_of t) (all_leaves ts)
     ∙ ap (λ l. plus l (total (all_leaves ts))) (total_leaves t) ∙ ap (λ l. plus (length_of t) l) (total_all ts)

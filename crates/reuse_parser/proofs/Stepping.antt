@@ -13,27 +13,27 @@ use Rattle.mark_source.specs.Source.{Source, ahead, at_place, behind, first, is_
 use Rattle.mark_source.proofs.Orders.{not_before_up_to}
 use Rattle.tree_defs.specs.Tree.{Tree, Text, Lone, Pair}
 use Rattle.tree_defs.specs.Shape.{length_of, leaves_of, all_leaves, total, Fits, RunsFit}
-use Rattle.tree_defs.specs.Items.{IsOpener}
+use Rattle.tree_defs.specs.Items.{IsOpener, items_then, end}
+use Rattle.tree_defs.specs.Ends.{in_lines}
 use Rattle.tree_defs.specs.Rows.{place}
 use Rattle.tree_defs.proofs.Lengths.{total_leaves}
-use Rattle.std.specs.Prelude.{Result, IfOk}
-use Rattle.core.specs.declared.result.Result.TheVariants.{Ok, Err}
+use Rattle.std.specs.Prelude.{Result, Ok, Err, IfOk}
 use Rattle.reuse_parser.specs.declared.place.Around.{Around}
 use Rattle.reuse_parser.specs.declared.old.Old.{Old}
 use Rattle.reuse_parser.specs.declared.relist.Stop.{Stop}
 use Rattle.reuse_parser.specs.Parsing.{start_of, end_of, size_of, next_start, Follow, Stopped, IsAround, IsWithin, role_has}
-use Rattle.reuse_parser.specs.Reusing.{ahead_of, IsIn, IsFound, Adds, Fills}
+use Rattle.reuse_parser.specs.Reusing.{ahead_of, lengths_of, IsIn, IsFound, AreShort, Adds, Fills}
 use Rattle.reuse_parser.specs.Reading.{StandsAt, IsStop, Lasts, IsMark, closer_has}
 use Rattle.reuse_parser.specs.Olds.{IsReady, IsSame, IsSince, Went}
 use Rattle.reuse_parser.proofs.Adding.{IsMet, met, text_adds, cut_adds, lone_adds, pair_adds}
 use Rattle.reuse_parser.proofs.AheadOf.{follows, next_keeps, in_within, in_further, up_to, up_to_itself, from_plus}
 use Rattle.reuse_parser.proofs.AheadOf.{less_up_to, mark_less, left_to, less_left, left_up_to}
-use Rattle.reuse_parser.proofs.Found.{found_adds}
-use Rattle.reuse_parser.proofs.Gathering.{Gathered, gathered_more, gathered_end, gathered_last, left_lasts}
+use Rattle.reuse_parser.proofs.Found.{found_adds, ends_at}
+use Rattle.reuse_parser.proofs.Gathering.{Gathered, total_all, gathered_more, gathered_end, gathered_last, left_lasts}
 use Rattle.reuse_parser.proofs.Gathering.{front_is, outer_stop, ClosesAt, closes_at, runs_fit, last_runs_fit}
 use Rattle.reuse_parser.proofs.Going.{Going, went_on, ready_on, since_on}
 use Rattle.reuse_parser.proofs.Marks.{same_place}
-use Rattle.reuse_parser.proofs.Reused.{last_fits}
+use Rattle.reuse_parser.proofs.Reused.{last_fits, in_fits, as_fits}
 use Rattle.reuse_parser.proofs.Sources.{next_marks, not_before}
 
 -- ---- a mark that was read
@@ -166,7 +166,7 @@ ended a at to s t old i stands ready is none mark new =
     })
 
 -- ---- a node of the old tree
-few_lines : (lines : List MarkedLine) (last : Length) → place last ≡ text_end lines → last.lines < 2 ^ 32
+pub few_lines : (lines : List MarkedLine) (last : Length) → place last ≡ text_end lines → last.lines < 2 ^ 32
     → length lines ≤ 2 ^ 32
 few_lines [] last is few = omega arith
 few_lines (line ∷ lines) last is few = let h = ap (λ p. p.line) is in omega (arith, h, few)
@@ -262,13 +262,23 @@ closer_some lines a b m kind p t stop c s old i w fills stops closes =
     met lines b c there (subst (λ p. ahead_of lines p ≡ c ∷ ahead_of lines (end_of c)) x.starts x.is) in
     y.some
 
+-- where a list ends that starts in a line
+fills_fit : (lines : List MarkedLine) (a : Around) (at : Length) (t : Tree) (to : Length) → Fills lines a at t to
+    → in_lines (lengths_of lines) at ≡ true → AreShort lines → length lines ≤ 2 ^ 32 → Fits to
+fills_fit lines a at t to l here short few = as_fits to (in_fits lines short few to
+    (subst (λ p. in_lines (lengths_of lines) p ≡ true) l.fine.ends
+    (ends_at (in_lines (lengths_of lines)) (items_then t end) at here l.ends)))
+
 pub left_next : (lines : List MarkedLine) (a b : Around) (m : Mark) (kind : ℕ) (p : Length) (t node : Tree)
     (stop : Stop) (s : Source) (old : Old) → IsIn lines a (start_of m) → IsMark lines (start_of m) m
     → a.level < a.limit → m.role ≡ Opener kind → IsWithin a kind b → p ≡ end_of m → Fills lines b p t stop.at
-    → IsStop lines b s old stop → closer_has stop.closer kind ≡ false → Fits stop.at
+    → IsStop lines b s old stop → closer_has stop.closer kind ≡ false → AreShort lines → a.end.lines < 2 ^ 32
     → node ≡ Pair (size_of m) kind t None → Lasts lines a (start_of m) node stop.at × IsStop lines a s old stop
-left_next lines a b m kind p t node stop s old i is room role w at fills0 stops none fits made =
+left_next lines a b m kind p t node stop s old i is room role w at fills0 stops none short few made =
     let fills : Fills lines b (end_of m) t stop.at = subst (λ q. Fills lines b q t stop.at) at fills0 in
+    let x : IsMet lines a m = met lines a m i is.is in
+    let fits : Fits stop.at = fills_fit lines b (end_of m) t stop.at fills x.ends short
+    (few_lines lines a.end i.last few) in
     let front = front_is lines b s old stop kind stops ∙ none in (
       subst (λ n. Lasts lines a (start_of m) n stop.at) (sym made)
           (left_lasts lines a b m kind t stop.at i is.is room role w fills front fits),
@@ -287,6 +297,10 @@ module _ (a : Around) (from : Length) (first : Source) (before : ℕ) (old : Old
   pub going_falls : from.cols < 2 ^ 32 → left_to a.end at ≤ left_to a.end from
   going_falls fits = left_up_to a.end from at fits
       (subst (λ p. ¬ IsLess p from) g.gathered.long (from_plus from (total ts)))
+
+  pub going_fits : Fits from → Fits at
+  going_fits fits = subst (λ p. Fits p) (ap (λ l. plus from l) (total_all ts) ∙ g.gathered.long)
+      (last_fits from (all_leaves ts) g.gathered.runs fits)
 
   pub going_more : (more : List Tree) (node : Tree) (to : Length) (next : Source) (later : ℕ) (then : Old)
       → Adds source.lines a at node to × StandsAt next to × IsReady then to

@@ -20,7 +20,7 @@ use Rattle.reuse_parser.proofs.Made.{pair_is, left_is}
 use Rattle.reuse_parser.proofs.Stepping.{some_columns, some_size, kind_of_opener, is_opener, cut_next, lone_next, text_next}
 use Rattle.reuse_parser.proofs.Stepping.{IsRead, read, went_read, ended, old_adds, adds_fit, old_next, went_old}
 use Rattle.reuse_parser.proofs.Stepping.{around_within, mark_within, falls_within, closed_next, closer_some, left_next}
-use Rattle.reuse_parser.proofs.Stepping.{going_in, going_since, going_falls, going_more, going_runs, last_runs}
+use Rattle.reuse_parser.proofs.Stepping.{going_in, going_since, going_falls, going_fits, going_more, going_runs, last_runs}
 use Rattle.reuse_parser.proofs.Stepping.{going_end, going_last, going_stop, both_ok}
 use Rattle.reuse_parser.proofs.relist.+reparsing.Goals as goal
 
@@ -234,7 +234,7 @@ pair_of-returns-clause-next g t c =
     (g.S.MarkSource.told c.list_from.new.source) c.list_from.new.old
     c.requires.place c.requires.mark c.requires.room c.requires.opener c.within.ensures c.end_of.ensures
     c.in_ok-inside.ensures.fills c.in_ok-inside.ensures.stops (c.closing.ensures.none c.in-None.is)
-    (omega arith, omega arith)
+    c.requires.since.short (omega arith)
     (left_is c.in_ok-node-in-None.node c.in_ok-opener.opener c.as_ref-in-None.result
     c.in_ok-inside.inside.tree.root (size_of c.args.mark) c.args.kind c.in_ok-node-in-None.ensures
     (rw c.size_of.ensures at c.in_ok-opener.ensures) c.as_ref-in-None.ensures.value)
@@ -252,7 +252,9 @@ list_from-loop-nodes-init g t c = record {
 pub list_from-next_at-requires : goal.list_from-next_at-requires
 list_from-next_at-requires g t c κs within =
     let i = c.loop-nodes.invariant in
-    let falls = going_falls _ _ _ _ _ _ _ _ _ _ i (omega arith) in (
+    let falls = going_falls c.args.around c.args.from (g.S.MarkSource.told c.args.source.now) c.args.steps.now c.args.old.now
+    c.loop-nodes.nodes.items c.loop-nodes.place (g.S.MarkSource.told c.loop-nodes.source) c.loop-nodes.steps
+    c.loop-nodes.old i (omega arith) in (
       omega (arith, c.decreases, falls),
       (
         within.0,
@@ -261,11 +263,15 @@ list_from-next_at-requires g t c κs within =
           (
             c.requires.around,
             (
-              going_in _ _ _ _ _ _ _ _ _ _ i c.requires.place,
+              going_in c.args.around c.args.from (g.S.MarkSource.told c.args.source.now) c.args.steps.now c.args.old.now
+    c.loop-nodes.nodes.items c.loop-nodes.place (g.S.MarkSource.told c.loop-nodes.source) c.loop-nodes.steps
+    c.loop-nodes.old i c.requires.place,
               (
                 i.stands,
                 (
-                  going_since _ _ _ _ _ _ _ _ _ _ i c.requires.since,
+                  going_since c.args.around c.args.from (g.S.MarkSource.told c.args.source.now) c.args.steps.now c.args.old.now
+    c.loop-nodes.nodes.items c.loop-nodes.place (g.S.MarkSource.told c.loop-nodes.source) c.loop-nodes.steps
+    c.loop-nodes.old i c.requires.since,
                   i.ready,
                 ),
               ),
@@ -278,20 +284,27 @@ list_from-next_at-requires g t c κs within =
 pub list_from-loop-nodes-smaller : goal.list_from-loop-nodes-smaller
 list_from-loop-nodes-smaller g t c =
     let n = rw c.in-Node.is at c.in_ok-node.ensures.next in
-    let h = less_left c.args.around.end c.loop-nodes.place c.in-Node.behind (omega arith) (omega arith) n.0.later
-    n.0.up_to in
+    let fits = going_fits c.args.around c.args.from (g.S.MarkSource.told c.args.source.now) c.args.steps.now c.args.old.now
+    c.loop-nodes.nodes.items c.loop-nodes.place (g.S.MarkSource.told c.loop-nodes.source) c.loop-nodes.steps
+    c.loop-nodes.old c.loop-nodes.invariant (omega arith, omega arith) in
+    let to = adds_fit _ _ _ _ _ n.0 fits in
+    let h = less_left c.args.around.end c.loop-nodes.place c.in-Node.behind fits.1 to.1 n.0.later n.0.up_to in
     omega (arith, h)
 
 pub list_from-loop-nodes-preserved : goal.list_from-loop-nodes-preserved
 list_from-loop-nodes-preserved g t c =
-    going_more _ _ _ _ _ _ _ _ _ _ c.loop-nodes.invariant c.push.new.self.items c.in-Node.node c.in-Node.behind
+    going_more c.args.around c.args.from (g.S.MarkSource.told c.args.source.now) c.args.steps.now c.args.old.now
+    c.loop-nodes.nodes.items c.loop-nodes.place (g.S.MarkSource.told c.loop-nodes.source) c.loop-nodes.steps
+    c.loop-nodes.old c.loop-nodes.invariant c.push.new.self.items c.in-Node.node c.in-Node.behind
     (g.S.MarkSource.told c.next_at.new.source) c.next_at.new.steps c.next_at.new.old
     (rw c.in-Node.is at c.in_ok-node.ensures.next) c.in_ok-node.ensures.went c.in_ok-push-in-Node.ensures.items
 
 pub list_from-tree_up_to-requires : goal.list_from-tree_up_to-requires
 list_from-tree_up_to-requires g t c =
     let n = rw c.in-Last.is at c.in_ok-node.ensures.next in
-    last_runs _ _ _ _ _ _ _ _ _ _ c.loop-nodes.invariant c.deref.result.now c.in-Last.node c.in-Last.stop.at
+    last_runs c.args.around c.args.from (g.S.MarkSource.told c.args.source.now) c.args.steps.now c.args.old.now
+    c.loop-nodes.nodes.items c.loop-nodes.place (g.S.MarkSource.told c.loop-nodes.source) c.loop-nodes.steps
+    c.loop-nodes.old c.loop-nodes.invariant c.deref.result.now c.in-Last.node c.in-Last.stop.at
     (omega arith, omega arith) n.0 (c.deref.ensures.value ∙ c.in_ok-push-in-Last.ensures.items)
 
 pub list_from-returns-in-Last-clause-fills : goal.list_from-returns-in-Last-clause-fills
@@ -300,7 +313,9 @@ list_from-returns-in-Last-clause-fills g t c =
     both_ok c.tree_up_to.result _ _ _
     (λ l leaves stop. subst (λ (x : Stop). Fills (g.S.MarkSource.told c.args.source.now).lines c.args.around c.args.from
     (or_nothing l.tree.root) x.at) (sym stop)
-    (going_last _ _ _ _ _ _ _ _ _ _ c.loop-nodes.invariant c.deref.result.now c.in-Last.node (or_nothing l.tree.root)
+    (going_last c.args.around c.args.from (g.S.MarkSource.told c.args.source.now) c.args.steps.now c.args.old.now
+    c.loop-nodes.nodes.items c.loop-nodes.place (g.S.MarkSource.told c.loop-nodes.source) c.loop-nodes.steps
+    c.loop-nodes.old c.loop-nodes.invariant c.deref.result.now c.in-Last.node (or_nothing l.tree.root)
     c.in-Last.stop.at n.0 (c.deref.ensures.value ∙ c.in_ok-push-in-Last.ensures.items)
     (root_leaves l.tree.root ∙ leaves))) c.tree_up_to.ensures.leaves c.tree_up_to.ensures.stop
 
@@ -310,11 +325,15 @@ list_from-returns-in-Last-clause-stops g t c =
     IfOk-weaker c.tree_up_to.result _ _
     (λ l stop. subst (λ (x : Stop). IsStop (g.S.MarkSource.told c.args.source.now).lines c.args.around
     (g.S.MarkSource.told c.next_at.new.source) c.next_at.new.old x) (sym stop)
-    (going_stop _ _ _ _ _ _ _ _ _ _ c.loop-nodes.invariant _ _ _ n.1)) c.tree_up_to.ensures.stop
+    (going_stop c.args.around c.args.from (g.S.MarkSource.told c.args.source.now) c.args.steps.now c.args.old.now
+    c.loop-nodes.nodes.items c.loop-nodes.place (g.S.MarkSource.told c.loop-nodes.source) c.loop-nodes.steps
+    c.loop-nodes.old c.loop-nodes.invariant _ _ _ n.1)) c.tree_up_to.ensures.stop
 
 pub list_from-tree_up_to-requires-in-End : goal.list_from-tree_up_to-requires-in-End
 list_from-tree_up_to-requires-in-End g t c =
-    going_runs _ _ _ _ _ _ _ _ _ _ c.loop-nodes.invariant c.deref-in-End.result.now (omega arith, omega arith)
+    going_runs c.args.around c.args.from (g.S.MarkSource.told c.args.source.now) c.args.steps.now c.args.old.now
+    c.loop-nodes.nodes.items c.loop-nodes.place (g.S.MarkSource.told c.loop-nodes.source) c.loop-nodes.steps
+    c.loop-nodes.old c.loop-nodes.invariant c.deref-in-End.result.now (omega arith, omega arith)
     c.deref-in-End.ensures.value
 
 pub list_from-returns-in-End-clause-fills : goal.list_from-returns-in-End-clause-fills
@@ -323,7 +342,9 @@ list_from-returns-in-End-clause-fills g t c =
     both_ok c.tree_up_to-in-End.result _ _ _
     (λ l leaves stop. subst (λ (x : Stop). Fills (g.S.MarkSource.told c.args.source.now).lines c.args.around c.args.from
     (or_nothing l.tree.root) x.at) (sym stop)
-    (going_end _ _ _ _ _ _ _ _ _ _ c.loop-nodes.invariant c.deref-in-End.result.now (or_nothing l.tree.root)
+    (going_end c.args.around c.args.from (g.S.MarkSource.told c.args.source.now) c.args.steps.now c.args.old.now
+    c.loop-nodes.nodes.items c.loop-nodes.place (g.S.MarkSource.told c.loop-nodes.source) c.loop-nodes.steps
+    c.loop-nodes.old c.loop-nodes.invariant c.deref-in-End.result.now (or_nothing l.tree.root)
     c.in-End.stop.at n.0 c.deref-in-End.ensures.value
     (root_leaves l.tree.root ∙ leaves))) c.tree_up_to-in-End.ensures.leaves c.tree_up_to-in-End.ensures.stop
 
@@ -333,4 +354,6 @@ list_from-returns-in-End-clause-stops g t c =
     IfOk-weaker c.tree_up_to-in-End.result _ _
     (λ l stop. subst (λ (x : Stop). IsStop (g.S.MarkSource.told c.args.source.now).lines c.args.around
     (g.S.MarkSource.told c.next_at.new.source) c.next_at.new.old x) (sym stop)
-    (going_stop _ _ _ _ _ _ _ _ _ _ c.loop-nodes.invariant _ _ _ n.1)) c.tree_up_to-in-End.ensures.stop
+    (going_stop c.args.around c.args.from (g.S.MarkSource.told c.args.source.now) c.args.steps.now c.args.old.now
+    c.loop-nodes.nodes.items c.loop-nodes.place (g.S.MarkSource.told c.loop-nodes.source) c.loop-nodes.steps
+    c.loop-nodes.old c.loop-nodes.invariant _ _ _ n.1)) c.tree_up_to-in-End.ensures.stop
