@@ -2,6 +2,7 @@
 use Rattle.std.proofs.Common.{◌≡◌, ℕ, ◌+◌, ◌<◌, ◌≤◌, ◌^◌, ◌&&◌, List, [], ◌∷◌, ◌++◌, length, Bool, true, false, IsTrue}
 use Rattle.std.proofs.Common.{Option, Some, None, refl, sym, ap, ◌∙◌, subst, arith, append-nil, inl, inr}
 use Rattle.text_pos.specs.declared.length.Length.{Length}
+use Rattle.text_pos.specs.declared.length.Pos.{Pos}
 use Rattle.text_pos.specs.declared.kinds.Kinds.{Kinds}
 use Rattle.text_pos.specs.KindSet.{has_kind}
 use Rattle.text_pos.specs.Lengths.{IsLess}
@@ -25,11 +26,11 @@ use Rattle.reuse_parser.specs.declared.relist.Stop.{Stop}
 use Rattle.reuse_parser.specs.Parsing.{Stopped, end_of, role_has}
 use Rattle.reuse_parser.specs.Reusing.{ahead_of, lengths_of, IsIn, AreShort, Fills}
 use Rattle.reuse_parser.specs.Reading.{StandsAt, IsStop, LeftAt}
-use Rattle.reuse_parser.specs.Olds.{IsReady}
+use Rattle.reuse_parser.specs.Olds.{IsReady, Went}
 use Rattle.reuse_parser.specs.Whole.{StandsFor}
 use Rattle.reuse_parser.proofs.AheadOf.{up_to_itself}
 use Rattle.reuse_parser.proofs.Reused.{in_fits, weaker}
-use Rattle.reuse_parser.proofs.Sources.{first_place, marks_follow, some_of, nothing_open, not_before}
+use Rattle.reuse_parser.proofs.Sources.{first_place, all_marks, marks_follow, some_of, nothing_open, not_before}
 use Rattle.reuse_parser.proofs.Stepping.{few_lines}
 
 -- ---- at the text's start
@@ -96,3 +97,24 @@ whole_stands above limit last t to lines i short few l at none even =
       cuts = cut_law limit t (marks_in lines) stands
           (some_of start last (marks_in lines) (marks_follow lines last i.marked i.some i.last));
     }
+
+-- ---- places and counts
+pub last_is : (last : Length) (p : Pos) (lines : List MarkedLine) → last.lines ≡ p.line → last.cols ≡ p.col
+    → p ≡ text_end lines → place last ≡ text_end lines
+last_is last p lines line col is = ap (λ n. record { line = n; col = last.cols }) line
+    ∙ ap (λ n. record { line = p.line; col = n }) col ∙ is
+
+pub seeks : (lines : List MarkedLine) (last : Length) (s : Source) (at : Length) (p : Pos) → IsWhole lines last s at
+    → place last ≡ text_end lines → p ≡ text_end lines → is_before p s.place ≡ false
+seeks lines last s at p w is ends =
+    subst (λ q. is_before q s.place ≡ false) (ap place w.ends ∙ is ∙ sym ends) w.stands.place
+
+pub few_steps : (s u : Source) (n k : ℕ) (old now : Old) → AreMarked s.lines → s.place ≡ first_place
+    → Went s n old u k now → k ≤ n + length (marks_in s.lines)
+few_steps s u n k old now marked begin went =
+    let all = ap length (all_marks s marked begin) in let few = went.few in omega (arith, all, few)
+
+pub few_given : (s u : Source) (n k : ℕ) (old now : Old) → AreMarked s.lines → s.place ≡ first_place
+    → Went s n old u k now → u.given ≤ s.given + length (marks_in s.lines)
+few_given s u n k old now marked begin went =
+    let all = ap length (all_marks s marked begin) in let few = went.few_given in omega (arith, all, few)

@@ -10,4 +10,4 @@ mod relist;
 pub mod whole;
 
 pub use laws::{new_nodes_add, old_nodes_add};
-pub use whole::parse;
+pub use whole::{parse, reparse};
