@@ -63,18 +63,24 @@ module _ (a : Around) (s : Source) (old : Old) where
       → a.level ≤ a.limit → a.limit ≤ a.level → IsOpener m.role → Fits (end_of m) → StandsAt s (end_of m)
       → IsReady old (end_of m) → t ≡ Text (size_of m) true → to ≡ end_of m → Follows (start_of m) t to
   cut_next m t to i is room full opener fits stands ready made ends =
-      subst (λ p. Follows (start_of m) t p) (sym ends)
-      (subst (λ x. Adds s.lines a (start_of m) x (end_of m)) (sym made)
-      (cut_adds s.lines a m i is.is room full opener fits), stands, ready)
+      subst (λ p. Follows (start_of m) t p) (sym ends) (
+        subst (λ x. Adds s.lines a (start_of m) x (end_of m)) (sym made)
+            (cut_adds s.lines a m i is.is room full opener fits),
+        stands,
+        ready,
+      )
 
   pub lone_next : (m : Mark) (kinds : Kinds) (t : Tree) (to : Length) → IsIn s.lines a (start_of m)
       → IsMark s.lines (start_of m) m → a.level ≤ a.limit → m.role ≡ Closer kinds
       → ¬ ((k : ℕ) × IsTrue (has_kind kinds k && has_kind a.above k)) → Fits (end_of m) → StandsAt s (end_of m)
       → IsReady old (end_of m) → t ≡ Lone (size_of m) kinds → to ≡ end_of m → Follows (start_of m) t to
   lone_next m kinds t to i is room role apart fits stands ready made ends =
-      subst (λ p. Follows (start_of m) t p) (sym ends)
-      (subst (λ x. Adds s.lines a (start_of m) x (end_of m)) (sym made)
-      (lone_adds s.lines a m kinds i is.is room role apart fits), stands, ready)
+      subst (λ p. Follows (start_of m) t p) (sym ends) (
+        subst (λ x. Adds s.lines a (start_of m) x (end_of m)) (sym made)
+            (lone_adds s.lines a m kinds i is.is room role apart fits),
+        stands,
+        ready,
+      )
 
   pub text_next : (at to : Length) (t : Tree) → IsIn s.lines a at → StandsAt s at → IsReady old at
       → a.level ≤ a.limit → to ≡ next_start a.end (ahead s) → IsLess at to
@@ -83,8 +89,7 @@ module _ (a : Around) (s : Source) (old : Old) where
       let next : to ≡ next_start a.end (ahead_of s.lines at) =
       is ∙ ap (λ ms. next_start a.end ms) stands.ahead in
       let there : IsLess at (next_start a.end (ahead_of s.lines at)) = subst (λ p. IsLess at p) next less in
-      let later : ¬ IsLess to at = less_up_to at to less in
-      (
+      let later : ¬ IsLess to at = less_up_to at to less in (
         subst (λ x. Adds s.lines a at x to) (sym text.1)
             (subst (λ p. Adds s.lines a at (Text text.0 false) p) (sym next)
             (text_adds s.lines a at text.0 i room there (text.2 ∙ next) (subst (λ p. Fits p) next fits))),

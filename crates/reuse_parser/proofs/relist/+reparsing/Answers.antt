@@ -264,14 +264,14 @@ list_from-next_at-requires g t c κs within =
             c.requires.around,
             (
               going_in c.args.around c.args.from (g.S.MarkSource.told c.args.source.now) c.args.steps.now c.args.old.now
-    c.loop-nodes.nodes.items c.loop-nodes.place (g.S.MarkSource.told c.loop-nodes.source) c.loop-nodes.steps
-    c.loop-nodes.old i c.requires.place,
+                  c.loop-nodes.nodes.items c.loop-nodes.place (g.S.MarkSource.told c.loop-nodes.source) c.loop-nodes.steps
+                  c.loop-nodes.old i c.requires.place,
               (
                 i.stands,
                 (
                   going_since c.args.around c.args.from (g.S.MarkSource.told c.args.source.now) c.args.steps.now c.args.old.now
-    c.loop-nodes.nodes.items c.loop-nodes.place (g.S.MarkSource.told c.loop-nodes.source) c.loop-nodes.steps
-    c.loop-nodes.old i c.requires.since,
+                      c.loop-nodes.nodes.items c.loop-nodes.place (g.S.MarkSource.told c.loop-nodes.source) c.loop-nodes.steps
+                      c.loop-nodes.old i c.requires.since,
                   i.ready,
                 ),
               ),
