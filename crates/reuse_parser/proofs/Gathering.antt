@@ -1,5 +1,5 @@
 -- The nodes of a list, one behind the other, and the tree that they make up where the list ends.
-use Rattle.std.proofs.Common.{◌≡◌, ℕ, ◌+◌, ◌<◌, ◌≤◌, max, List, [], ◌∷◌, ◌++◌, length, Bool, true, false}
+use Rattle.std.proofs.Common.{◌≡◌, ℕ, ◌+◌, ◌<◌, ◌≤◌, List, [], ◌∷◌, ◌++◌, Bool, true, false}
 use Rattle.std.proofs.Common.{Option, Some, None, refl, sym, ap, ◌∙◌, subst, arith, append_assoc, append-nil}
 use Rattle.text_pos.specs.declared.length.Length.{Length}
 use Rattle.text_pos.specs.Lengths.{plus, IsLess}
@@ -7,9 +7,9 @@ use Rattle.pairing_defs.specs.declared.Role.TheVariants.{Opener}
 use Rattle.pairing_defs.specs.declared.Mark.{Mark}
 use Rattle.bracket_marks.specs.MarkedLine.{MarkedLine}
 use Rattle.mark_source.specs.Source.{Source}
-use Rattle.tree_defs.specs.Tree.{Tree, Pair, depth}
+use Rattle.tree_defs.specs.Tree.{Tree, Pair}
 use Rattle.tree_defs.specs.Shape.{length_of, leaves_of, all_leaves, all_items, total, Fits, RunsFit, EndsFit}
-use Rattle.tree_defs.specs.Items.{Items, items_then, end, behind, left_by, unclosed}
+use Rattle.tree_defs.specs.Items.{Items, items_then, end, behind, left_by}
 use Rattle.tree_defs.specs.Ends.{in_lines}
 use Rattle.tree_defs.proofs.Lengths.{plus_assoc, plus_none, total_append, total_leaves, ends_runs, ends_append}
 use Rattle.tree_defs.proofs.Lengths.{items_append, leaf_items}

@@ -1,13 +1,13 @@
 -- What the loop over a list keeps.
-use Rattle.std.proofs.Common.{◌≡◌, ℕ, ◌+◌, ◌≤◌, List, length, refl, sym, ap, ◌∙◌, subst, arith}
+use Rattle.std.proofs.Common.{◌≡◌, ℕ, List, refl, sym, ◌∙◌, subst, arith}
 use Rattle.text_pos.specs.declared.length.Length.{Length}
 use Rattle.text_pos.specs.Lengths.{IsLess}
 use Rattle.bracket_marks.specs.MarkedLine.{MarkedLine}
-use Rattle.mark_source.specs.Source.{Source, ahead}
+use Rattle.mark_source.specs.Source.{Source}
 use Rattle.tree_defs.specs.Tree.{Tree}
 use Rattle.reuse_parser.specs.declared.place.Around.{Around}
 use Rattle.reuse_parser.specs.declared.old.Old.{Old}
-use Rattle.reuse_parser.specs.Reusing.{IsIn, Since, AreShort}
+use Rattle.reuse_parser.specs.Reusing.{Since, AreShort}
 use Rattle.reuse_parser.specs.Reading.{StandsAt}
 use Rattle.reuse_parser.specs.Olds.{IsReady, IsSame, IsSince, Went}
 use Rattle.reuse_parser.proofs.Gathering.{Gathered}

@@ -1,6 +1,6 @@
 -- The tree of a whole text that is made with nodes of an old tree.
-use Rattle.std.proofs.Common.{◌≡◌, ℕ, ◌+◌, ◌<◌, ◌≤◌, ◌^◌, ◌&&◌, List, [], ◌∷◌, ◌++◌, length, Bool, true, false, IsTrue}
-use Rattle.std.proofs.Common.{Option, Some, None, refl, sym, ap, ◌∙◌, subst, arith, append-nil, inl, inr}
+use Rattle.std.proofs.Common.{◌≡◌, ℕ, ◌+◌, ◌<◌, ◌≤◌, ◌^◌, ◌&&◌, List, [], ◌++◌, length, false, IsTrue}
+use Rattle.std.proofs.Common.{Option, Some, None, sym, ap, ◌∙◌, subst, arith, append-nil, inl, inr}
 use Rattle.text_pos.specs.declared.length.Length.{Length}
 use Rattle.text_pos.specs.declared.length.Pos.{Pos}
 use Rattle.text_pos.specs.declared.kinds.Kinds.{Kinds}
@@ -9,7 +9,7 @@ use Rattle.text_pos.specs.Lengths.{IsLess}
 use Rattle.pairing_defs.specs.declared.Mark.{Mark}
 use Rattle.pairing_defs.specs.Pairing.{paired}
 use Rattle.bracket_marks.specs.MarkedLine.{MarkedLine, marks_in, text_end}
-use Rattle.mark_source.specs.Source.{Source, ahead, marks_from, is_before, AreMarked}
+use Rattle.mark_source.specs.Source.{Source, marks_from, is_before, AreMarked}
 use Rattle.mark_source.proofs.Ahead.{all_ahead}
 use Rattle.mark_source.proofs.Places.{all_in_order}
 use Rattle.tree_defs.specs.Tree.{Tree}
@@ -23,10 +23,10 @@ use Rattle.tree_defs.proofs.Lengths.{none_plus}
 use Rattle.reuse_parser.specs.declared.place.Around.{Around}
 use Rattle.reuse_parser.specs.declared.old.Old.{Old}
 use Rattle.reuse_parser.specs.declared.relist.Stop.{Stop}
-use Rattle.reuse_parser.specs.Parsing.{Stopped, end_of, role_has}
+use Rattle.reuse_parser.specs.Parsing.{Stopped, role_has}
 use Rattle.reuse_parser.specs.Reusing.{ahead_of, lengths_of, IsIn, AreShort, Fills}
 use Rattle.reuse_parser.specs.Reading.{StandsAt, IsStop, LeftAt}
-use Rattle.reuse_parser.specs.Olds.{IsReady, Went}
+use Rattle.reuse_parser.specs.Olds.{Went}
 use Rattle.reuse_parser.specs.Whole.{StandsFor}
 use Rattle.reuse_parser.proofs.AheadOf.{up_to_itself}
 use Rattle.reuse_parser.proofs.Reused.{in_fits, weaker}

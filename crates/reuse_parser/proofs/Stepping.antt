@@ -1,6 +1,6 @@
 -- What each step of a parse that reads an old tree leads to.
-use Rattle.std.proofs.Common.{◌≡◌, ℕ, ◌+◌, ◌*◌, ◌<◌, ◌≤◌, ◌^◌, ◌&&◌, List, [], ◌∷◌, ◌++◌, length, Bool, true, false}
-use Rattle.std.proofs.Common.{IsTrue, Option, Some, None, refl, sym, ap, ◌∙◌, subst, arith}
+use Rattle.std.proofs.Common.{◌≡◌, ℕ, ◌+◌, ◌<◌, ◌≤◌, ◌^◌, ◌&&◌, List, [], ◌∷◌, ◌++◌, length, true, false}
+use Rattle.std.proofs.Common.{IsTrue, Some, None, refl, sym, ap, ◌∙◌, subst, arith}
 use Rattle.std.proofs.lemmas.List.{length-append}
 use Rattle.text_pos.specs.declared.length.Length.{Length}
 use Rattle.text_pos.specs.declared.kinds.Kinds.{Kinds}
@@ -8,8 +8,8 @@ use Rattle.text_pos.specs.KindSet.{has_kind}
 use Rattle.text_pos.specs.Lengths.{plus, IsLess}
 use Rattle.pairing_defs.specs.declared.Role.TheVariants.{Opener, Closer}
 use Rattle.pairing_defs.specs.declared.Mark.{Mark}
-use Rattle.bracket_marks.specs.MarkedLine.{MarkedLine, marks_in, text_end}
-use Rattle.mark_source.specs.Source.{Source, ahead, at_place, behind, first, is_before, risen, IsRole, AreMarked}
+use Rattle.bracket_marks.specs.MarkedLine.{MarkedLine, text_end}
+use Rattle.mark_source.specs.Source.{Source, ahead, at_place, behind, first, risen, IsRole, AreMarked}
 use Rattle.mark_source.proofs.Orders.{not_before_up_to}
 use Rattle.tree_defs.specs.Tree.{Tree, Text, Lone, Pair}
 use Rattle.tree_defs.specs.Shape.{length_of, leaves_of, all_leaves, total, Fits, RunsFit}

@@ -1,5 +1,5 @@
 -- Where a parse stands in a source of marks, and what stands next in a list.
-use Rattle.std.specs.Prelude.{◌≡◌, ℕ, ◌+◌, ◌≤◌, List, [], ◌∷◌, length, Bool, false, Option, Some, None}
+use Rattle.std.specs.Prelude.{◌≡◌, ℕ, List, [], ◌∷◌, Bool, false, Option, Some, None}
 use Rattle.text_pos.specs.declared.length.Length.{Length}
 use Rattle.pairing_defs.specs.declared.Mark.{Mark}
 use Rattle.bracket_marks.specs.MarkedLine.{MarkedLine}

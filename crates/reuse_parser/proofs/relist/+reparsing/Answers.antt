@@ -1,20 +1,16 @@
-use Rattle.std.proofs.Common.{rules, ◌≡◌, ◌+◌, ◌*◌, ◌<◌, Some, refl, sym, ap, ◌∙◌, subst, arith}
+use Rattle.std.proofs.Common.{rules, refl, sym, ap, ◌∙◌, subst, arith}
 use Rattle.std.proofs.lemmas.Result.{IfOk-weaker}
-use Rattle.text_pos.specs.declared.length.Length.{Length}
 use Rattle.text_pos.specs.Lengths.{plus}
 use Rattle.tree_defs.specs.Shape.{length_of}
 use Rattle.bracket_ast.specs.Shapes.{or_nothing}
 use Rattle.reuse_parser.specs.declared.relist.Stop.{Stop}
-use Rattle.reuse_parser.specs.declared.relist.Listed.{Listed}
-use Rattle.reuse_parser.specs.declared.relist.Next.{Next}
-use Rattle.reuse_parser.specs.declared.relist.Next.TheVariants as next
-use Rattle.reuse_parser.specs.Parsing.{start_of, end_of, size_of}
-use Rattle.reuse_parser.specs.Reusing.{IsIn, Fills}
+use Rattle.reuse_parser.specs.Parsing.{size_of}
+use Rattle.reuse_parser.specs.Reusing.{Fills}
 use Rattle.reuse_parser.specs.Reading.{StandsAt, IsStop, IsNext}
 use Rattle.reuse_parser.specs.Olds.{IsReady, IsSince}
 use Rattle.reuse_parser.proofs.AheadOf.{left_to, less_left}
 use Rattle.reuse_parser.proofs.Gathering.{gathered_first}
-use Rattle.reuse_parser.proofs.Going.{Going, went_on, went_none, since_on}
+use Rattle.reuse_parser.proofs.Going.{went_on, went_none}
 use Rattle.reuse_parser.proofs.Loops.{root_leaves}
 use Rattle.reuse_parser.proofs.Made.{pair_is, left_is}
 use Rattle.reuse_parser.proofs.Stepping.{some_columns, some_size, kind_of_opener, is_opener, cut_next, lone_next, text_next}

@@ -1,7 +1,5 @@
-use Rattle.std.proofs.Common.{◌≡◌, ◌≤◌, ◌<◌, ◌+◌, length, subst, sym, ap, ◌∙◌, arith}
-use Rattle.bracket_marks.specs.MarkedLine.{marks_in, text_end}
+use Rattle.std.proofs.Common.{ap, arith}
 use Rattle.bracket_ast.specs.Shapes.{or_nothing}
-use Rattle.tree_defs.specs.Rows.{place}
 use Rattle.reuse_parser.specs.declared.place.Around.{Around}
 use Rattle.reuse_parser.proofs.Sources.{sound_is_even}
 use Rattle.reuse_parser.proofs.Renewed.{IsWhole, whole_in, whole_stop, whole_stands, last_is, seeks, few_steps, few_given}
