@@ -165,3 +165,6 @@ pub less_left : (last at to : Length) → at.cols < 2 ^ 32 → to.cols < 2 ^ 32 
     → left_to last to < left_to last at
 less_left last at to at_fits to_fits less up =
     let h = weight_less at to at_fits less in let k = weight_up_to to last to_fits up in omega (arith, h, k)
+
+pub left_up_to : (last at to : Length) → at.cols < 2 ^ 32 → ¬ IsLess to at → left_to last to ≤ left_to last at
+left_up_to last at to fits later = let h = weight_up_to at to fits later in omega (arith, h)

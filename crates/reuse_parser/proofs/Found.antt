@@ -102,7 +102,7 @@ module _ (old new : Length → Bool) (o at len : Length)
   ends_go stray d up h = h
 
 -- ---- where a node ends that isn't empty
-ends_at : (test : Length → Bool) (its : Items) (at : Length) → test at ≡ true → EndAt test its at
+pub ends_at : (test : Length → Bool) (its : Items) (at : Length) → test at ≡ true → EndAt test its at
     → test (behind its at) ≡ true
 ends_at test end at here h = here
 ends_at test (text len cut rest) at here h = ends_at test rest (plus at len) h.0 h.1

@@ -71,7 +71,7 @@ total_more at to ts t behind long last =
     ∙ sym (plus_assoc at (total ts) (length_of t))
     ∙ ap (λ p. plus p (length_of t)) long ∙ last
 
-deepest_more : (ts : List Tree) (t : Tree) (level limit : ℕ) → deepest ts + level ≤ limit → depth t + level ≤ limit
+pub deepest_more : (ts : List Tree) (t : Tree) (level limit : ℕ) → deepest ts + level ≤ limit → depth t + level ≤ limit
     → deepest (ts ++ t ∷ []) + level ≤ limit
 deepest_more [] t level limit h k = omega (arith, h, k)
 deepest_more (x ∷ ts) t level limit h k =
@@ -108,11 +108,11 @@ pub runs_fit : (a : Around) (at : Length) (ms : List Mark) (ts : List Tree) (to 
     → Parsed a at ms ts to rest → Fits at → RunsFit (all_leaves ts)
 runs_fit a at ms ts to rest p fits = subst (λ l. RunsFit l) (sym p.leaves) (ends_runs at ts fits p.fit)
 
-deepest_of : (xs ys : List Tree) → deepest (xs ++ ys) ≡ max (deepest xs) (deepest ys)
+pub deepest_of : (xs ys : List Tree) → deepest (xs ++ ys) ≡ max (deepest xs) (deepest ys)
 deepest_of [] ys = omega arith
 deepest_of (x ∷ xs) ys = let h = deepest_of xs ys in omega (arith, h)
 
-depth_leaves : (t : Tree) → depth t ≡ deepest (leaves_of t)
+pub depth_leaves : (t : Tree) → depth t ≡ deepest (leaves_of t)
 depth_leaves Nothing = refl
 depth_leaves (Text len cut) = refl
 depth_leaves (Bracket len kind) = refl

@@ -61,7 +61,7 @@ none_also : (has other : ℕ → Bool) (es : List Entry) → ((k : ℕ) → othe
 none_also has other [] same none = tt
 none_also has other (e ∷ es) same none = (same e.kind ∙ none.0, none_also has other es same none.1)
 
-none_more : (has : ℕ → Bool) (es : List Entry) (e : Entry) → NoneBy has es → has e.kind ≡ false
+pub none_more : (has : ℕ → Bool) (es : List Entry) (e : Entry) → NoneBy has es → has e.kind ≡ false
     → NoneBy has (es ++ e ∷ [])
 none_more has [] e none last = (last, tt)
 none_more has (x ∷ es) e none last = (none.0, none_more has es e none.1 last)
@@ -180,7 +180,7 @@ pair_grows a b m kind rest t to left c more room role follow w l front =
     (closed_by c kind c.role refl front.has)
 
 -- ---- a pair without closer
-left_stopped : (a b : Around) (kind : ℕ) (to : Length) (left : List Mark) → IsWithin a kind b
+pub left_stopped : (a b : Around) (kind : ℕ) (to : Length) (left : List Mark) → IsWithin a kind b
     → front_has left kind ≡ false
     → Stopped b to left → Stopped a to left
 left_stopped a b kind to [] w none stopped = stopped ∙ w.last

@@ -219,7 +219,7 @@ inner_fits (pair o k inside c rest) at h here =
 inner_fits (unclosed o k inside) at h here = inner_fits inside (plus at o) h.2 (as_fits (plus at o) h.1)
 inner_fits stray at h here = absurd h
 
-last_fits : (at : Length) (ts : List Tree) → EndsFit at ts → Fits at → Fits (plus at (total ts))
+pub last_fits : (at : Length) (ts : List Tree) → EndsFit at ts → Fits at → Fits (plus at (total ts))
 last_fits at [] ends here = subst (λ p. Fits p) (sym (plus_none at)) here
 last_fits at (t ∷ ts) ends here = subst (λ p. Fits p) (plus_assoc at (length_of t) (total ts))
     (last_fits (plus at (length_of t)) ts ends.1 ends.0)

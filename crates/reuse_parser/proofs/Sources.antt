@@ -115,7 +115,7 @@ marks_follow (line ∷ lines) last are some is =
     (lines_follow 0 line lines start are (not_itself 0 0))
 
 -- marks that follow each other take some columns each
-some_of : (p last : Length) (ms : List Mark) → Follow p last ms → AreSome ms
+pub some_of : (p last : Length) (ms : List Mark) → Follow p last ms → AreSome ms
 some_of p last [] follow = tt
 some_of p last (m ∷ ms) follow = (
   follow.1,
@@ -142,7 +142,7 @@ not_before p q none = by (is_before p q) refl
         before h = grind (arith, nat_tests)
 
 -- ---- the whole tree
-nothing_open : (b c : Bool) → c ≡ false → IsTrue (b && c) → ⊥
+pub nothing_open : (b c : Bool) → c ≡ false → IsTrue (b && c) → ⊥
 nothing_open true true h t = cc
 nothing_open true false h t = cc
 nothing_open false c h t = cc

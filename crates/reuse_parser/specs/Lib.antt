@@ -1,4 +1,6 @@
 pub mod AddLaws
+pub mod Olds
 pub mod Parsing
+pub mod Reading
 pub mod Reusing
 pub mod Whole

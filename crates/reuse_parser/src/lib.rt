@@ -4,8 +4,10 @@
 mod gather;
 pub mod laws;
 mod list;
+mod old;
 mod place;
+mod relist;
 pub mod whole;
 
 pub use laws::{new_nodes_add, old_nodes_add};
-pub use whole::parse;
+pub use whole::{parse, reparse};

@@ -46,7 +46,7 @@ impl Around {
 }
 
 /// Where a mark starts, as a length from the text's start.
-fn start_of(mark: Mark) -> Length
+pub(crate) fn start_of(mark: Mark) -> Length
     ensures { result ≡ start_of mark }
 {
     Length {

@@ -1,13 +1,12 @@
-use Rattle.std.proofs.Common.{rules, ◌≡◌, ◌∷◌, List, sym, ap, ◌∙◌, subst, Some, None, Option, Bor, ℕ}
-use Rattle.std.specs.Option.{option_copied}
+use Rattle.std.proofs.Common.{rules, ◌≡◌, ◌∷◌, List, sym, ◌∙◌, subst}
 use Rattle.text_pos.specs.Lengths.{IsLess}
 use Rattle.text_pos.specs.declared.length.Length.{Length}
 use Rattle.pairing_defs.specs.declared.Mark.{Mark}
-use Rattle.tree_defs.specs.Tree.{Tree, Bracket, Pair}
-use Rattle.tree_defs.specs.Shape.{length_of}
-use Rattle.bracket_ast.specs.Shapes.{or_nothing, nows, pair_of}
+use Rattle.tree_defs.specs.Tree.{Tree}
+use Rattle.bracket_ast.specs.Shapes.{or_nothing}
 use Rattle.reuse_parser.specs.declared.place.Around.{Around}
 use Rattle.reuse_parser.specs.Parsing.{start_of, size_of, next_start, Follow, Grows}
+use Rattle.reuse_parser.proofs.Made.{pair_is, left_is}
 use Rattle.reuse_parser.proofs.Marks.{same_place}
 use Rattle.reuse_parser.proofs.Pairs.{pair_grows, left_grows}
 use Rattle.reuse_parser.proofs.Loops.{parsed_more, parsed_whole, runs_fit, root_leaves}
@@ -25,27 +24,6 @@ grows_here : (a : Around) (at : Length) (ms : List Mark) (m : Mark) (rest : List
 grows_here a at ms m rest t to left are follow none g =
     subst (λ l. Grows a at l t to left) (sym are)
     (subst (λ p. Grows a p (m ∷ rest) t to left) (sym (met a at ms m rest are follow none)) g)
-
--- what a borrowed root is
-borrowed : (o : Option (Bor Tree)) (root : Option Tree) → option_copied o ≡ root → nows o ≡ root
-borrowed None root h = h
-borrowed (Some t) root h = h
-
-pair_is : (node opener closer : Tree) (inside : Option (Bor Tree)) (root : Option Tree) (len : Length) (kind : ℕ)
-    (last : Length)
-    → node ≡ pair_of opener (nows inside) (Some closer) → opener ≡ Bracket len kind → closer ≡ Bracket last kind
-    → option_copied inside ≡ root → node ≡ Pair len kind (or_nothing root) (Some last)
-pair_is node opener closer inside root len kind last is opens closes same =
-    is ∙ ap (λ o. pair_of o (nows inside) (Some closer)) opens ∙ ap (λ x. Pair len kind (or_nothing (nows inside))
-    (Some (length_of x))) closes
-    ∙ ap (λ r. Pair len kind (or_nothing r) (Some last)) (borrowed inside root same)
-
-left_is : (node opener : Tree) (inside : Option (Bor Tree)) (root : Option Tree) (len : Length) (kind : ℕ)
-    → node ≡ pair_of opener (nows inside) None → opener ≡ Bracket len kind → option_copied inside ≡ root
-    → node ≡ Pair len kind (or_nothing root) None
-left_is node opener inside root len kind is opens same =
-    is ∙ ap (λ o. pair_of o (nows inside) None) opens ∙ ap (λ r. Pair len kind (or_nothing r) None)
-    (borrowed inside root same)
 
 pub parse_child-returns-in_ok-parse_pair-in-Opener-clause-some :
     goal.parse_child-returns-in_ok-parse_pair-in-Opener-clause-some
