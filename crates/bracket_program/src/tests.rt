@@ -84,7 +84,7 @@ fn run_counted<L: Ledger, M: Ledger, S: Source, K: Sink>(
     run(alloc, words, files, script, sink, &mut steps, &mut marks)
 }
 
-const CASES: [Case<'static>; 32] = [
+const CASES: [Case<'static>; 33] = [
     // An empty file is one empty line.
     Case {
         words: &["text"],
