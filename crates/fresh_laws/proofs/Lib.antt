@@ -1,2 +1,6 @@
+pub mod Bounds
+pub mod Each
+pub mod FreshLaw
 pub mod RowParts
-pub mod Sublists
+pub mod RowsOfMarks
+pub mod Trees

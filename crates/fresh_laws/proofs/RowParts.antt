@@ -1,12 +1,14 @@
 -- The rows of items, one behind the other, and the row of a number.
-use Rattle.std.proofs.Common.{◌≡◌, ℕ, zero, suc, ◌+◌, List, [], ◌∷◌, ◌++◌, length, Some}
-use Rattle.std.proofs.Common.{refl, sym, ap, ◌∙◌, subst, arith, length-append}
+use Rattle.std.proofs.Common.{◌≡◌, ℕ, suc, ◌+◌, List, [], ◌∷◌, ◌++◌, length, Some, None}
+use Rattle.std.proofs.Common.{refl, ap, arith, length-append}
 use Rattle.std.specs.List.{slice_get}
 use Rattle.text_pos.specs.declared.length.Length.{Length}
+use Rattle.text_pos.specs.Lengths.{plus}
 use Rattle.pairing_defs.specs.declared.Row.{Row}
-use Rattle.pairing_defs.specs.Pairing.{Entry}
-use Rattle.tree_defs.specs.Items.{Items, end, text, lone, pair, unclosed, stray, rows_in, behind}
-use Rattle.tree_defs.specs.Rows.{FullRow, tree_rows, IsFull, AreFull}
+use Rattle.pairing_defs.specs.Pairing.{Entry, of_kind}
+use Rattle.tree_defs.specs.Items.{Items, end, text, lone, pair, unclosed, stray, rows_in, behind, opens, closes_kind}
+use Rattle.tree_defs.specs.Items.{row_at}
+use Rattle.tree_defs.specs.Rows.{FullRow, place, full, tree_rows, IsFull, AreFull}
 
 -- ---- how many rows there are
 pub full_long : (rs : List Row) (fs : List FullRow) → AreFull rs fs → length rs ≡ length fs
@@ -15,16 +17,32 @@ full_long [] (f ∷ fs) a = absurd a
 full_long (r ∷ rs) [] a = absurd a
 full_long (r ∷ rs) (f ∷ fs) a = ap (λ n. suc n) (full_long rs fs a.1)
 
+-- the whole rows of a pair's opener and of its closer
+abbrev pub opener_full : Length → ℕ → Items → Length → ℕ → List Entry → FullRow
+opener_full opener kind inside at n es =
+    full (row_at at opener (opens kind) (length es) (of_kind kind es) None) (Some (n + 1 + rows_in inside))
+    (place (behind inside (plus at opener)))
+
+abbrev pub closer_full : Length → ℕ → Items → Length → Length → ℕ → List Entry → FullRow
+closer_full opener kind inside closer at n es =
+    full (row_at (behind inside (plus at opener)) closer (closes_kind kind) (length es) (of_kind kind es) (Some n))
+    (Some n) (place (behind inside (plus at opener)))
+
+pair_long : (f g : FullRow) (xs ys : List FullRow) (a b : ℕ) → length xs ≡ a → length ys ≡ b
+    → length (f ∷ (xs ++ g ∷ ys)) ≡ a + b + 2
+pair_long f g xs ys a b h i = let l = length-append xs (g ∷ ys) in omega (arith, h, i, l)
+
 pub rows_long : (its : Items) (at : Length) (n : ℕ) (es : List Entry) → length (tree_rows its at n es) ≡ rows_in its
 rows_long end at n es = refl
-rows_long (text len cut rest) at n es = rows_long rest _ n es
-rows_long (lone len kinds rest) at n es = let h = rows_long rest _ (n + 1) es in omega (arith, h)
-rows_long (pair o k inside c rest) at n es =
-    let h = rows_long inside _ (n + 1) (record { row = n; kind = k } ∷ es) in
-    let i = rows_long rest _ (n + 1 + rows_in inside + 1) es in
-    let l = length-append (tree_rows inside _ (n + 1) (record { row = n; kind = k } ∷ es)) (_ ∷ tree_rows rest _ (n + 1 + rows_in inside + 1) es) in
-    omega (arith, h, i, l)
-rows_long (unclosed o k inside) at n es = let h = rows_long inside _ (n + 1) (record { row = n; kind = k } ∷ es) in omega (arith, h)
+rows_long (text len cut rest) at n es = rows_long rest (plus at len) n es
+rows_long (lone len kinds rest) at n es = let h = rows_long rest (plus at len) (n + 1) es in omega (arith, h)
+rows_long (pair o k inside c rest) at n es = pair_long (opener_full o k inside at n es) (closer_full o k inside c at n es)
+    (tree_rows inside (plus at o) (n + 1) (record { row = n; kind = k } ∷ es))
+    (tree_rows rest (plus (behind inside (plus at o)) c) (n + 1 + rows_in inside + 1) es) (rows_in inside) (rows_in rest)
+    (rows_long inside (plus at o) (n + 1) (record { row = n; kind = k } ∷ es))
+    (rows_long rest (plus (behind inside (plus at o)) c) (n + 1 + rows_in inside + 1) es)
+rows_long (unclosed o k inside) at n es =
+    let h = rows_long inside (plus at o) (n + 1) (record { row = n; kind = k } ∷ es) in omega (arith, h)
 rows_long stray at n es = refl
 
 -- ---- rows of two lists
