@@ -9,6 +9,7 @@ pub mod Marks
 pub mod Moved
 pub mod Single
 pub mod Pairs
+pub mod Plain
 pub mod Renewed
 pub mod Reused
 pub mod Sources

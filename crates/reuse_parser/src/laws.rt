@@ -15,3 +15,7 @@ pub fn new_nodes_add()
 pub fn old_nodes_add()
     ensures { FoundAdds }
 {}
+
+pub fn probe()
+    ensures { TextAdds }
+{}
