@@ -1,13 +1,16 @@
 pub mod AheadOf
 pub mod Adding
 pub mod Found
+pub mod Beside
 pub mod Gathering
 pub mod Going
 pub mod Loops
 pub mod Made
 pub mod Marks
 pub mod Moved
+pub mod OpenAt
 pub mod Single
+pub mod Outside
 pub mod Pairs
 pub mod Plain
 pub mod Renewed
@@ -15,5 +18,7 @@ pub mod Reused
 pub mod Sources
 pub mod Starting
 pub mod Stepping
+pub mod Stood
 pub mod Stretch
+pub mod Unmet
 pub mod Within
