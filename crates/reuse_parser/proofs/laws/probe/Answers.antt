@@ -3,7 +3,7 @@ use Rattle.reuse_parser.proofs.Plain.{plain_depth}
 use Rattle.reuse_parser.proofs.Beside.{pair_starts}
 use Rattle.reuse_parser.proofs.Stood.{pair_passes}
 use Rattle.reuse_parser.proofs.OpenAt.{open_first}
-use Rattle.reuse_parser.proofs.Outside.{opener_there}
+use Rattle.reuse_parser.proofs.Outside.{outside_node}
 use Rattle.reuse_parser.proofs.laws.probe.Goals as goal
 
 pub returns : goal.returns
