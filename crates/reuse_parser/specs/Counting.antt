@@ -19,8 +19,6 @@ use Rattle.reuse_defs.specs.Unsettled.{AllPaired, NoneCut}
 use Rattle.reuse_parser.specs.declared.place.Around.{Around}
 use Rattle.reuse_parser.specs.Parsing.{start_of}
 use Rattle.reuse_parser.specs.Reusing.{ahead_of, HasRoom}
-use Rattle.reuse_parser.specs.declared.old.Old.{Old}
-use Rattle.reuse_parser.specs.Olds.{IsReady}
 
 -- each old mark has a row with a partner, and each new mark a row
 pub record IsCalm (limit : ℕ) (t : Tree) (changes : List Change) (lines : List MarkedLine) : Type 0 where
@@ -49,8 +47,3 @@ abbrev pub NonePasses : Tree → List Change → Around → Length → Type 0
 NonePasses t changes a at = (p : ClosedPair) → IsIn p (closed_pairs t start) → IsInLine p.opener
     → before changes at ≡ Some p.from → HasRoom (distance changes at) (length_of (node_of p))
     → ¬ CanBeReused a.above a.level a.limit (node_of p)
-
--- a parse may go on at a place: what is ahead in the old tree wasn't read, and the place is outside settled pairs
-pub record IsSet (lines : List MarkedLine) (limit : ℕ) (old : Old) (at : Length) : Type 0 where
-  pub ready : IsReady old at
-  pub outside : IsCalm limit old.reader.tree old.mapper lines → IsOutside old.reader.tree old.mapper at

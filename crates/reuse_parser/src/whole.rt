@@ -3,6 +3,7 @@ ghost use Rattle.bracket_marks.specs.MarkedLine.{marks_in, text_end};
 ghost use Rattle.mark_source.specs.Source.{AreMarked};
 ghost use Rattle.bracket_ast.specs.Shapes.{or_nothing, SoundInside};
 ghost use Rattle.reuse_defs.specs.Whole.{StandsFor};
+ghost use Rattle.reuse_defs.specs.Unsettled.{RisesByFresh};
 ghost use Rattle.reuse_parser.specs.Parsing.{given_after};
 ghost use Rattle.reuse_defs.specs.Since.{Since};
 ghost use Rattle.reuse_parser.specs.Reusing.{AreShort};
@@ -80,6 +81,8 @@ pub fn reparse<S: MarkSource, M: Ledger>(
     ensures lines { (S.told source.new).lines ≡ (S.told source.old).lines }
     ensures few { marks.new ≤ marks.old + length (marks_in (S.told source.old).lines) }
     ensures few_given { (S.told source.new).given ≤ (S.told source.old).given + length (marks_in (S.told source.old).lines) }
+    ensures fresh { RisesByFresh limit (or_nothing old.now.root) changes.now (S.told source.old).lines marks.old marks.new }
+    ensures fresh_given { RisesByFresh limit (or_nothing old.now.root) changes.now (S.told source.old).lines (S.told source.old).given (S.told source.new).given }
 {
     let end = end_of(source);
     let around = Around {
