@@ -12,6 +12,7 @@ pub mod OpenAt
 pub mod Single
 pub mod Outside
 pub mod Pairs
+pub mod Passed
 pub mod Plain
 pub mod Renewed
 pub mod Reused

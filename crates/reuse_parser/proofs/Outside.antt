@@ -39,7 +39,7 @@ use Rattle.reuse_parser.proofs.Unmet.{Unmet}
 use Rattle.reuse_parser.proofs.Stood.{Stood, stood, pair_part, calm_plain, calm_pair, pair_passes}
 
 -- ---- orders
-less_itself : (a b : Length) → IsInLine b → IsLess a (plus a b)
+pub less_itself : (a b : Length) → IsInLine b → IsLess a (plus a b)
 less_itself a b some = by a b some.0 some.1
   where
     by : (a b : Length) → b.lines ≡ 0 → 0 < b.cols → IsLess a (plus a b)
@@ -54,7 +54,7 @@ up_then a b c h k = less_by_test a c (less_test a b c (not_is_less b a h) (less_
     less_test : (a b c : Length) → is_less b a ≡ false → is_less b c ≡ true → is_less a c ≡ true
     less_test a b c h k = grind (arith, nat_tests)
 
-then_up : (a b c : Length) → IsLess a b → ¬ IsLess c b → IsLess a c
+pub then_up : (a b c : Length) → IsLess a b → ¬ IsLess c b → IsLess a c
 then_up a b c h k = less_by_test a c (less_test a b c (less_is a b h) (not_is_less c b k))
   where
     less_by_test : (a b : Length) → is_less a b ≡ true → IsLess a b

@@ -15,7 +15,3 @@ pub fn new_nodes_add()
 pub fn old_nodes_add()
     ensures { FoundAdds }
 {}
-
-pub fn probe()
-    ensures { TextAdds }
-{}

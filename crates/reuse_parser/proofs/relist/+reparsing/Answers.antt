@@ -8,10 +8,11 @@ use Rattle.reuse_parser.specs.Parsing.{start_of, size_of}
 use Rattle.reuse_parser.specs.Reusing.{Fills}
 use Rattle.reuse_parser.specs.Reading.{StandsAt, IsStop, IsNext}
 use Rattle.reuse_parser.specs.Olds.{IsSet, IsSince}
-use Rattle.reuse_parser.specs.Counting.{IsOpenAt}
+use Rattle.reuse_parser.specs.Counting.{IsOpenAt, NoneSettled}
 use Rattle.reuse_parser.proofs.AheadOf.{left_to, less_left}
 use Rattle.reuse_parser.proofs.Gathering.{gathered_first}
-use Rattle.reuse_parser.proofs.Going.{went_on, went_none}
+use Rattle.reuse_parser.proofs.Going.{went_on, went_none, went_same, since_on, set_on, calmly_on}
+use Rattle.reuse_parser.proofs.Outside.{none_settled}
 use Rattle.reuse_parser.proofs.OpenAt.{open_within}
 use Rattle.reuse_parser.proofs.Loops.{root_leaves}
 use Rattle.reuse_parser.proofs.Made.{pair_is, left_is}
@@ -173,6 +174,53 @@ next_at-returns-in_ok-node-in-Some-clause-went g t c =
     (old_adds s.lines c.args.around c.args.place c.args.old.now c.in-Some.node.now c.requires.place c.requires.since
     (omega arith, omega arith) (omega arith) c.in-Some.ensures.found) c.requires.stands c.taken.ensures.source
     c.node_at.ensures.same
+
+-- ---- where no node is taken
+pub next_at-made_at-requires : goal.next_at-made_at-requires
+next_at-made_at-requires g t c κs within =
+    let s = g.S.MarkSource.told c.args.source.now in
+    let set = c.requires.ready in (
+      omega (arith, c.decreases),
+      (
+        within.0,
+        (
+          within.1,
+          (
+            c.requires.around,
+            (
+              c.requires.place,
+              (
+                c.requires.stands,
+                (
+                  since_on c.args.around.limit c.args.old.now c.node_at.new.old s.lines s.lines c.requires.since
+                      c.node_at.ensures.same refl,
+                  (
+                    c.requires.opens,
+                    (
+                      set_on c.args.around.limit c.args.old.now c.node_at.new.old s.lines s.lines c.args.place
+                          c.node_at.ensures.same refl c.node_at.ensures.ready c.requires.ready,
+                      calmly_on NoneSettled c.args.around.limit c.args.old.now c.node_at.new.old s.lines s.lines
+                          c.args.place c.node_at.ensures.same refl
+                          (λ calm. none_settled s.lines c.args.around c.args.old.now.reader.tree
+                          c.args.old.now.mapper calm c.args.place c.requires.place c.requires.opens
+                          c.requires.around.room (set.outside calm) (c.node_at.ensures.none c.in-None.is)),
+                    ),
+                  ),
+                ),
+              ),
+            ),
+          ),
+        ),
+      ),
+    )
+
+pub next_at-returns-in-None-clause-went : goal.next_at-returns-in-None-clause-went
+next_at-returns-in-None-clause-went g t c =
+    let s = g.S.MarkSource.told c.args.source.now in
+    went_on c.args.around.limit s s (g.S.MarkSource.told c.made_at.new.source) c.args.steps.now c.args.steps.now
+    c.made_at.new.steps c.args.old.now c.node_at.new.old c.made_at.new.old
+    (went_same c.args.around.limit s c.args.steps.now c.args.old.now c.node_at.new.old c.node_at.ensures.same)
+    c.made_at.ensures.went
 
 -- ---- a pair
 pub pair_of-size_of-requires : goal.pair_of-size_of-requires
@@ -383,3 +431,34 @@ list_from-returns-in-End-clause-stops g t c =
     (going_stop c.args.around c.args.from (g.S.MarkSource.told c.args.source.now) c.args.steps.now c.args.old.now
     c.loop-nodes.nodes.items c.loop-nodes.place (g.S.MarkSource.told c.loop-nodes.source) c.loop-nodes.steps
     c.loop-nodes.old c.loop-nodes.invariant _ _ _ n.1)) c.tree_up_to-in-End.ensures.stop
+
+-- ---- what was read
+pub list_from-returns-in_err-node-clause-went : goal.list_from-returns-in_err-node-clause-went
+list_from-returns-in_err-node-clause-went g t c =
+    went_on c.args.around.limit (g.S.MarkSource.told c.args.source.now) (g.S.MarkSource.told c.loop-nodes.source)
+    (g.S.MarkSource.told c.next_at.new.source) c.args.steps.now c.loop-nodes.steps c.next_at.new.steps
+    c.args.old.now c.loop-nodes.old c.next_at.new.old c.loop-nodes.invariant.went c.next_at.ensures.went
+
+pub list_from-returns-in_err-push-in-Node-clause-went : goal.list_from-returns-in_err-push-in-Node-clause-went
+list_from-returns-in_err-push-in-Node-clause-went g t c =
+    went_on c.args.around.limit (g.S.MarkSource.told c.args.source.now) (g.S.MarkSource.told c.loop-nodes.source)
+    (g.S.MarkSource.told c.next_at.new.source) c.args.steps.now c.loop-nodes.steps c.next_at.new.steps
+    c.args.old.now c.loop-nodes.old c.next_at.new.old c.loop-nodes.invariant.went c.next_at.ensures.went
+
+pub list_from-returns-in_err-push-in-Last-clause-went : goal.list_from-returns-in_err-push-in-Last-clause-went
+list_from-returns-in_err-push-in-Last-clause-went g t c =
+    went_on c.args.around.limit (g.S.MarkSource.told c.args.source.now) (g.S.MarkSource.told c.loop-nodes.source)
+    (g.S.MarkSource.told c.next_at.new.source) c.args.steps.now c.loop-nodes.steps c.next_at.new.steps
+    c.args.old.now c.loop-nodes.old c.next_at.new.old c.loop-nodes.invariant.went c.next_at.ensures.went
+
+pub list_from-returns-in-Last-clause-went : goal.list_from-returns-in-Last-clause-went
+list_from-returns-in-Last-clause-went g t c =
+    went_on c.args.around.limit (g.S.MarkSource.told c.args.source.now) (g.S.MarkSource.told c.loop-nodes.source)
+    (g.S.MarkSource.told c.next_at.new.source) c.args.steps.now c.loop-nodes.steps c.next_at.new.steps
+    c.args.old.now c.loop-nodes.old c.next_at.new.old c.loop-nodes.invariant.went c.next_at.ensures.went
+
+pub list_from-returns-in-End-clause-went : goal.list_from-returns-in-End-clause-went
+list_from-returns-in-End-clause-went g t c =
+    went_on c.args.around.limit (g.S.MarkSource.told c.args.source.now) (g.S.MarkSource.told c.loop-nodes.source)
+    (g.S.MarkSource.told c.next_at.new.source) c.args.steps.now c.loop-nodes.steps c.next_at.new.steps
+    c.args.old.now c.loop-nodes.old c.next_at.new.old c.loop-nodes.invariant.went c.next_at.ensures.went

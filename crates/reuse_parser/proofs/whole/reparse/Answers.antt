@@ -7,12 +7,12 @@ use Rattle.reuse_parser.proofs.whole.reparse.Goals as goal
 
 pub returns-in_err-listed-clause-few : goal.returns-in_err-listed-clause-few
 returns-in_err-listed-clause-few g c =
-    few_steps (g.S.MarkSource.told c.args.source.now) (g.S.MarkSource.told c.list_from.new.source) c.args.marks.now
+    few_steps c.args.limit (g.S.MarkSource.told c.args.source.now) (g.S.MarkSource.told c.list_from.new.source) c.args.marks.now
     c.list_from.new.steps _ _ c.end_of-end.ensures.marked c.requires.begin c.list_from.ensures.went
 
 pub returns-in_err-listed-clause-few_given : goal.returns-in_err-listed-clause-few_given
 returns-in_err-listed-clause-few_given g c =
-    few_given (g.S.MarkSource.told c.args.source.now) (g.S.MarkSource.told c.list_from.new.source) c.args.marks.now
+    few_given c.args.limit (g.S.MarkSource.told c.args.source.now) (g.S.MarkSource.told c.list_from.new.source) c.args.marks.now
     c.list_from.new.steps _ _ c.end_of-end.ensures.marked c.requires.begin c.list_from.ensures.went
 
 pub seek-requires : goal.seek-requires
@@ -45,11 +45,11 @@ returns-clause-stands g c =
 
 pub returns-clause-few : goal.returns-clause-few
 returns-clause-few g c =
-    few_steps (g.S.MarkSource.told c.args.source.now) (g.S.MarkSource.told c.list_from.new.source) c.args.marks.now
+    few_steps c.args.limit (g.S.MarkSource.told c.args.source.now) (g.S.MarkSource.told c.list_from.new.source) c.args.marks.now
     c.list_from.new.steps _ _ c.end_of-end.ensures.marked c.requires.begin c.list_from.ensures.went
 
 pub returns-clause-few_given : goal.returns-clause-few_given
 returns-clause-few_given g c =
-    let few = few_given (g.S.MarkSource.told c.args.source.now) (g.S.MarkSource.told c.list_from.new.source)
+    let few = few_given c.args.limit (g.S.MarkSource.told c.args.source.now) (g.S.MarkSource.told c.list_from.new.source)
     c.args.marks.now c.list_from.new.steps _ _ c.end_of-end.ensures.marked c.requires.begin c.list_from.ensures.went in
     let same = ap (λ v. v.given) c.seek.ensures in omega (arith, few, same)
