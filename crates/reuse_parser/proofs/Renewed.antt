@@ -30,6 +30,7 @@ use Rattle.reuse_parser.specs.Reading.{StandsAt, IsStop, LeftAt}
 use Rattle.reuse_parser.specs.Olds.{Went}
 use Rattle.reuse_defs.specs.Settled.{is_unsettled}
 use Rattle.reuse_defs.specs.Unsettled.{RisesByFresh}
+use Rattle.change_defs.specs.declared.Change.{Change}
 use Rattle.fresh_laws.proofs.FreshLaw.{fresh_law}
 use Rattle.std.proofs.Common.{count_by}
 use Rattle.reuse_defs.specs.Whole.{StandsFor}
@@ -138,3 +139,9 @@ fresh_given limit s u n k old now marked begin went since paired uncut =
     let all = ap (λ ms. count_by (is_unsettled old.reader.tree old.mapper) ms) (all_marks s marked begin) in
     let few = went.fresh_given (record { since = since; paired = paired; uncut = uncut }) in
     let most = fresh_law limit old.reader.tree old.mapper s.lines since paired in omega (arith, all, few, most)
+
+-- the same of a tree and changes that are the same
+pub rises_on : (limit : ℕ) (t u : Tree) (a b : List Change) (lines : List MarkedLine) (n k : ℕ) → t ≡ u → a ≡ b
+    → RisesByFresh limit t a lines n k → RisesByFresh limit u b lines n k
+rises_on limit t u a b lines n k same changes h = subst (λ x. RisesByFresh limit x b lines n k) same
+    (subst (λ y. RisesByFresh limit t y lines n k) changes h)
