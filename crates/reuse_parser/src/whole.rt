@@ -61,7 +61,8 @@ pub fn parse<S: MarkSource, M: Ledger>(
 
 /// The tree of all marks of a source that stands at the text's start, as `parse` makes it, with nodes of an old tree that
 /// the changes since leave as they were. The old tree stands for old marks at this limit, and outside the changes old
-/// and new marks agree. At most one step is taken for each mark, and the source's count rises by at most as many. The
+/// and new marks agree. At most one step is taken for each mark, and the source's count rises by at most as many. Where
+/// each old mark has a row with a partner and no opener of the new text is cut, both rise by at most the fresh marks. The
 /// source's place is then the text's end.
 pub fn reparse<S: MarkSource, M: Ledger>(
     alloc: Global,
