@@ -1,16 +1,16 @@
 -- How a part of a tree and a closed pair of the tree lie to each other: apart, or one in the other.
-use Rattle.std.proofs.Common.{◌≡◌, ℕ, ◌+◌, ◌<◌, ◌&&◌, ◌⊎◌, inl, inr, List, [], ◌∷◌, ◌++◌, Bool, true, false, Some, None}
-use Rattle.std.proofs.Common.{if◌then◌else◌, refl, sym, ap, ◌∙◌, subst, arith}
+use Rattle.std.proofs.Common.{◌≡◌, ℕ, ◌+◌, ◌&&◌, ◌⊎◌, inl, inr, List, [], ◌∷◌, ◌++◌, Bool, true, false, Some, None}
+use Rattle.std.proofs.Common.{if◌then◌else◌, refl, sym, subst, arith}
 use Rattle.std.proofs.lemmas.Bool.Decides.{nat_tests}
 use Rattle.text_pos.specs.declared.length.Length.{Length}
 use Rattle.text_pos.specs.Lengths.{plus, IsLess}
 use Rattle.tree_defs.specs.Tree.{Tree, Nothing, Text, Bracket, Lone, Pair, Two, Three, is_bare}
 use Rattle.tree_defs.specs.Shape.{length_of}
-use Rattle.tree_defs.specs.Items.{Items, end, text, lone, pair, unclosed, stray, unclosed_then, items_then, items_of}
+use Rattle.tree_defs.specs.Items.{Items, end, text, lone, pair, unclosed, stray, unclosed_then, items_then}
 use Rattle.tree_defs.specs.Cuts.{IsIn}
 use Rattle.tree_defs.specs.Ends.{EndAt, IsInLine}
 use Rattle.tree_defs.proofs.Lengths.{plus_assoc}
-use Rattle.node_reader.specs.Starts.{is_same, is_some, here, closer_here, starting_from}
+use Rattle.node_reader.specs.Starts.{is_same, is_some, here, starting_from}
 use Rattle.reuse_defs.specs.Settled.{ClosedPair, closed_pairs, node_of, end_of_pair}
 use Rattle.reuse_parser.specs.Reusing.{IsPart}
 use Rattle.reuse_parser.specs.Reusing as part

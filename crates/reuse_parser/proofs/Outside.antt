@@ -1,5 +1,5 @@
 -- A parse that takes nodes of an old tree stands strictly inside no closed pair that no change meets or touches.
-use Rattle.std.proofs.Common.{◌≡◌, ℕ, ◌+◌, ◌<◌, ◌≤◌, ◌&&◌, ◌||◌, ◌⊎◌, inl, inr, List, [], ◌∷◌, ◌++◌, Bool, true, false, filter}
+use Rattle.std.proofs.Common.{◌≡◌, ℕ, ◌<◌, ◌≤◌, ◌&&◌, ◌||◌, ◌⊎◌, inl, inr, List, [], ◌∷◌, ◌++◌, Bool, true, false, filter}
 use Rattle.std.proofs.Common.{Option, Some, None, refl, sym, ap, ◌∙◌, subst, arith}
 use Rattle.std.proofs.lemmas.Bool.Decides.{nat_tests}
 use Rattle.std.specs.List.{list_any}
@@ -10,9 +10,8 @@ use Rattle.bracket_marks.specs.MarkedLine.{MarkedLine, marks_in}
 use Rattle.change_defs.specs.declared.Change.{Change}
 use Rattle.change_defs.specs.Changes.{is_less, are_in_order, before, distance, is_inside, placed, image}
 use Rattle.change_laws.specs.Chains.{has_room}
-use Rattle.change_laws.proofs.Order.{plus_less}
 use Rattle.change_laws.proofs.PlaceLaws.{images_rise}
-use Rattle.tree_defs.specs.Tree.{Tree, CanBeReused}
+use Rattle.tree_defs.specs.Tree.{Tree}
 use Rattle.tree_defs.specs.Shape.{length_of, no_length}
 use Rattle.tree_defs.specs.Items.{items_of, end, Stands}
 use Rattle.tree_defs.specs.Cuts as cuts
@@ -27,12 +26,12 @@ use Rattle.reuse_parser.specs.Reading.{IsMark}
 use Rattle.reuse_parser.specs.Reusing.{ahead_of, IsIn, IsPart, HasRoom}
 use Rattle.reuse_parser.specs.Counting.{IsCalm, IsOutside, NoneSettled, IsOpenAt, NonePasses}
 use Rattle.reuse_parser.proofs.Adding.{IsMet, met}
-use Rattle.reuse_parser.proofs.AheadOf.{up_to, up_to_itself, from_plus, less_by, less_up_to, mark_less, follows, in_further, next_within}
+use Rattle.reuse_parser.proofs.AheadOf.{up_to, up_to_itself, from_plus, less_up_to, mark_less, follows, in_further, next_within}
 use Rattle.reuse_parser.proofs.Sources.{marks_follow}
 use Rattle.reuse_parser.proofs.Moved.{not_is_less, less_is, is_less_not, range_splits, in_range, and_left, and_right}
 use Rattle.reuse_parser.proofs.Stretch.{image_there, outside_there}
 use Rattle.reuse_parser.proofs.Starting.{Part}
-use Rattle.reuse_parser.proofs.Plain.{IsPlain, pair_plain, plain_uncut}
+use Rattle.reuse_parser.proofs.Plain.{pair_plain, plain_uncut}
 use Rattle.reuse_parser.proofs.Beside.{Lies, pair_lies, Beside, beside, Brackets, brackets}
 use Rattle.reuse_parser.proofs.Beside as side
 use Rattle.reuse_parser.proofs.Unmet.{Unmet}

@@ -1,10 +1,10 @@
 -- Where the reader of an old tree finds no node with a row, no closed pair can be reused that starts there.
-use Rattle.std.proofs.Common.{◌≡◌, ℕ, ◌+◌, ◌<◌, ◌&&◌, inl, inr, List, Bool, true, false, Option, Some, None, refl, sym, ap, ◌∙◌, subst, arith}
+use Rattle.std.proofs.Common.{◌≡◌, ◌<◌, List, true, Option, Some, None, sym, ◌∙◌, subst, arith}
 use Rattle.std.proofs.lemmas.Bool.Decides.{nat_tests}
 use Rattle.text_pos.specs.declared.length.Length.{Length}
 use Rattle.text_pos.specs.Lengths.{plus, IsLess}
 use Rattle.change_defs.specs.declared.Change.{Change}
-use Rattle.change_defs.specs.Changes.{is_less, before, distance}
+use Rattle.change_defs.specs.Changes.{before, distance}
 use Rattle.change_laws.proofs.Order.{plus_less}
 use Rattle.node_reader.specs.Asks as asks
 use Rattle.node_reader.specs.Asks.{IsPassing, IsLongest}
@@ -12,12 +12,11 @@ use Rattle.node_reader.specs.Laws.{IsBest}
 use Rattle.node_reader.specs.Starts.{is_some, starting}
 use Rattle.node_reader.specs.declared.ask.Ask.{Ask}
 use Rattle.node_reader.proofs.Nested.{longest}
-use Rattle.tree_defs.specs.Tree.{Tree, CanBeReused, is_bare}
+use Rattle.tree_defs.specs.Tree.{Tree, is_bare}
 use Rattle.tree_defs.specs.Shape.{length_of}
 use Rattle.tree_defs.specs.Cuts as cuts
-use Rattle.tree_defs.specs.Ends.{IsInLine}
 use Rattle.tree_defs.specs.Rows.{start}
-use Rattle.reuse_defs.specs.Settled.{ClosedPair, closed_pairs, node_of}
+use Rattle.reuse_defs.specs.Settled.{node_of}
 use Rattle.reuse_parser.specs.declared.place.Around.{Around}
 use Rattle.reuse_parser.specs.Reusing.{HasRoom}
 use Rattle.reuse_parser.specs.Counting.{NonePasses}

@@ -1,12 +1,11 @@
 -- Trees whose brackets all have partners and that hold no cut opener: how deep they are where they stand.
-use Rattle.std.proofs.Common.{◌≡◌, ℕ, zero, suc, ◌+◌, ◌<◌, ◌≤◌, ◌&&◌, ◌||◌, ◌⊎◌, inl, inr, List, [], ◌∷◌, ◌++◌, length, Bool, true, false}
-use Rattle.std.proofs.Common.{Option, Some, None, max, nat_le, refl, sym, ap, ◌∙◌, subst, arith}
+use Rattle.std.proofs.Common.{◌≡◌, ℕ, ◌+◌, ◌<◌, ◌≤◌, ◌&&◌, ◌||◌, ◌⊎◌, inl, inr, List, [], ◌∷◌, ◌++◌, length, Bool, true, false}
+use Rattle.std.proofs.Common.{Some, None, max, nat_le, refl, sym, ap, ◌∙◌, subst, arith}
 use Rattle.std.proofs.lemmas.Bool.Decides.{nat_tests}
 use Rattle.std.proofs.lemmas.List.{length-append}
 use Rattle.std.specs.List.{list_all}
 use Rattle.text_pos.specs.declared.length.Length.{Length}
 use Rattle.text_pos.specs.declared.length.Pos.{Pos}
-use Rattle.text_pos.specs.KindSet.{has_kind}
 use Rattle.text_pos.specs.Lengths.{plus}
 use Rattle.pairing_defs.specs.declared.Role.{Role}
 use Rattle.pairing_defs.specs.declared.Role.TheVariants.{Opener, Closer}
@@ -16,7 +15,7 @@ use Rattle.pairing_defs.specs.Pairing.{Entry, Open, Placed, placed_from, open_af
 use Rattle.pairing_defs.specs.Pairing.{from_last}
 use Rattle.tree_defs.specs.Tree.{Tree, Nothing, Text, Bracket, Lone, Pair, Two, Three, is_cut, misses, depth}
 use Rattle.tree_defs.specs.Shape.{length_of}
-use Rattle.tree_defs.specs.Items.{Items, end, text, lone, pair, unclosed, stray, unclosed_then, items_then, items_of}
+use Rattle.tree_defs.specs.Items.{Items, end, text, lone, pair, unclosed, stray, unclosed_then, items_then}
 use Rattle.tree_defs.specs.Items.{depth_of, rows_in, behind, row_at, closes_kind, AreCut, Stands}
 use Rattle.tree_defs.specs.Cuts.{IsIn}
 use Rattle.tree_defs.specs.Rows.{FullRow, full, tree_rows, AreFull, place}

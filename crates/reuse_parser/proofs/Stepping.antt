@@ -36,7 +36,7 @@ use Rattle.reuse_parser.proofs.AheadOf.{less_up_to, mark_less, left_to, less_lef
 use Rattle.reuse_parser.proofs.Found.{found_adds, ends_at, room_of}
 use Rattle.reuse_parser.proofs.Gathering.{Gathered, total_all, gathered_more, gathered_end, gathered_last, left_lasts}
 use Rattle.reuse_parser.proofs.Gathering.{front_is, outer_stop, ClosesAt, closes_at, runs_fit, last_runs_fit}
-use Rattle.reuse_parser.proofs.Going.{Going, went_on, ready_on, since_on, set_on, calmly_on}
+use Rattle.reuse_parser.proofs.Going.{Going, went_on, ready_on, since_on, calmly_on}
 use Rattle.reuse_parser.proofs.Outside.{outside_text, outside_mark, outside_node}
 use Rattle.reuse_parser.proofs.OpenAt.{open_on}
 use Rattle.reuse_parser.proofs.Marks.{same_place}

@@ -1,19 +1,18 @@
 -- What a part of an old tree stands for at a place of the new text, where no change lies before its end.
-use Rattle.std.proofs.Common.{◌≡◌, ℕ, ◌+◌, ◌≤◌, ◌<◌, ◌&&◌, ◌⊎◌, inl, inr, List, [], ◌∷◌, ◌++◌, length, map, Bool, true, false, IsTrue}
-use Rattle.std.proofs.Common.{Some, None, max, refl, sym, ap, ◌∙◌, subst, arith}
-use Rattle.std.proofs.lemmas.Bool.Decides.{nat_tests}
+use Rattle.std.proofs.Common.{◌≡◌, ℕ, ◌+◌, ◌≤◌, ◌⊎◌, inl, inr, List, [], ◌++◌, map, true, false}
+use Rattle.std.proofs.Common.{Some, None, max, refl, sym, subst, arith}
 use Rattle.text_pos.specs.declared.length.Length.{Length}
-use Rattle.text_pos.specs.Lengths.{plus, IsLess}
+use Rattle.text_pos.specs.Lengths.{plus}
 use Rattle.pairing_defs.specs.declared.Mark.{Mark}
 use Rattle.pairing_defs.specs.Pairing.{Open, open_after, placed_from, nothing_open}
 use Rattle.bracket_marks.specs.MarkedLine.{MarkedLine, marks_in, text_end}
 use Rattle.change_defs.specs.declared.Change.{Change}
-use Rattle.change_defs.specs.Changes.{is_less, before, distance, placed, image}
+use Rattle.change_defs.specs.Changes.{before, distance, placed}
 use Rattle.change_defs.specs.Agreement.{moved}
 use Rattle.change_laws.specs.Chains.{has_room}
-use Rattle.tree_defs.specs.Tree.{Tree, Nothing, Text, Bracket, Lone, Pair, Two, Three, CanBeReused, Passes, is_cut, depth}
+use Rattle.tree_defs.specs.Tree.{Tree, Nothing, Text, Bracket, Lone, Pair, Two, Three, CanBeReused, is_cut, depth}
 use Rattle.tree_defs.specs.Shape.{length_of, no_length}
-use Rattle.tree_defs.specs.Items.{items_of, end, behind, depth_of, rows_in, Stands}
+use Rattle.tree_defs.specs.Items.{items_of, end, behind, depth_of, Stands}
 use Rattle.tree_defs.specs.Cuts as cuts
 use Rattle.tree_defs.specs.Ends.{in_lines, fits}
 use Rattle.tree_defs.specs.Rows.{start, tree_rows}
@@ -24,13 +23,12 @@ use Rattle.reuse_defs.specs.Since.{Since, lengths_of}
 use Rattle.reuse_defs.specs.Settled.{ClosedPair, closed_pairs, node_of, is_unmet}
 use Rattle.reuse_defs.specs.Unsettled.{rows_of}
 use Rattle.reuse_parser.specs.declared.place.Around.{Around}
-use Rattle.reuse_parser.specs.Parsing.{start_of, Follow}
 use Rattle.reuse_parser.specs.Reusing.{ahead_of, IsIn, IsPart}
 use Rattle.reuse_parser.specs.Reusing as part
 use Rattle.reuse_parser.specs.Counting.{IsCalm, IsOpenAt}
 use Rattle.reuse_parser.proofs.Sources.{marks_follow}
 use Rattle.reuse_parser.proofs.Reused.{Ended, ended}
-use Rattle.reuse_parser.proofs.Within.{PartIn, part_in, Lies, lies, AllFrom, AllUpTo}
+use Rattle.reuse_parser.proofs.Within.{PartIn, part_in, Lies, lies, AllUpTo}
 use Rattle.reuse_parser.proofs.Moved.{AllSome, some_front, some_back, follow_some}
 use Rattle.reuse_parser.proofs.Stretch.{mid_moved, marks_there}
 use Rattle.reuse_parser.proofs.Starting.{in_part, Part}
