@@ -1,5 +1,5 @@
 -- A test of finitely many places shows that all places agree.
-use Rattle.std.proofs.Common.{◌≡◌, ℕ, zero, suc, ◌+◌, ◌≤◌, ◌||◌, Bool, true, false, List, [], ◌∷◌, Option, Some, None}
+use Rattle.std.proofs.Common.{◌≡◌, ℕ, zero, suc, ◌+◌, ◌<◌, ◌≤◌, ◌||◌, Bool, true, false, List, [], ◌∷◌, length, Option, Some, None}
 use Rattle.std.proofs.Common.{refl, sym, subst, slice_get, arith, inl, inr}
 use Rattle.std.proofs.lemmas.Bool.Decides.{nat_tests}
 use Rattle.text_pos.specs.declared.length.Length.{Length}
@@ -12,7 +12,9 @@ use Rattle.change_defs.specs.Agreement.{Marked, Agree}
 use Rattle.change_laws.specs.Chains.{Chain}
 use Rattle.change_laws.proofs.Chains.{chain_of, nothing_before, passed, none_passed, is_or, first_outside, others_outside}
 use Rattle.change_laws.proofs.Placing.{both_true}
-use Rattle.agreement_check.specs.Checks.{last_in, is_behind, line_keeps, lines_keep, places_keep, AgreeBy}
+use Rattle.bracket_marks.specs.MarkedLine.{MarkedLine}
+use Rattle.mark_source.specs.Source.{AreMarked}
+use Rattle.agreement_check.specs.Checks.{marked_text, AreAgreed, MayBeReused, last_in, is_behind, line_keeps, lines_keep, places_keep, AgreeBy}
 
 reaches_less : (o : Option ℕ) (a b : ℕ) → a ≤ b → reaches o b ≡ true → reaches o a ≡ true
 reaches_less None a b le h = h
@@ -120,4 +122,19 @@ agrees cs old new order h = record {
   };
   places = λ at i o. places first_joint (placed cs) old.lines new.lines at (chain_of cs order) (nothing_before at) i o h.places;
   starts = h.starts;
+}
+
+pub may_be_reused : (cs : List Change) (old new : List MarkedLine) → AreMarked old → 0 < length old → AreAgreed cs old new
+    → MayBeReused cs old new
+may_be_reused cs old new marked some a limit t stands = record {
+  old = old;
+  last = (marked_text old).end;
+  new_last = (marked_text new).end;
+  marked = marked;
+  some = some;
+  is_last = refl;
+  is_new_last = refl;
+  order = a.order;
+  stands = stands;
+  agree = a.agree;
 }

@@ -1,5 +1,5 @@
 -- A test of finitely many places that the marks of two texts agree outside changes.
-use Rattle.std.specs.Prelude.{◌≡◌, ℕ, ◌+◌, ◌-◌, ◌^◌, ◌<◌, ◌==◌, ◌&&◌, ◌||◌, Bool, true, false, nat_lt, min, if◌then◌else◌}
+use Rattle.std.specs.Prelude.{◌≡◌, ℕ, ◌+◌, ◌-◌, ◌==◌, ◌&&◌, ◌||◌, Bool, true, false, nat_lt, min, if◌then◌else◌}
 use Rattle.std.specs.Prelude.{List, [], ◌∷◌, map, filter, Option, Some, None}
 use Rattle.std.specs.List.{list_all}
 use Rattle.text_pos.specs.declared.length.Length.{Length}
@@ -13,6 +13,9 @@ use Rattle.change_defs.specs.declared.Joint.{Joint}
 use Rattle.change_defs.specs.declared.Placed.{Placed}
 use Rattle.change_defs.specs.Changes.{is_less, carried, first_joint, is_inside, image_by, are_in_order}
 use Rattle.change_defs.specs.Agreement.{Marked, Agree, start_of, is_clear, is_uncut}
+use Rattle.tree_defs.specs.Tree.{Tree}
+use Rattle.reuse_parser.specs.Reusing.{Since, AreShort}
+use Rattle.reuse_parser.specs.Whole.{StandsFor}
 
 -- what agreement sees of lines
 abbrev pub marked_text : List MarkedLine → Marked
@@ -21,11 +24,6 @@ marked_text lines = record {
   lines = map (λ l. l.length) lines;
   end = record { lines = (text_end lines).line; cols = (text_end lines).col };
 }
-
--- each line is of 32 bits
-abbrev pub AreShort : List MarkedLine → Type 0
-AreShort [] = Unit {0}
-AreShort (line ∷ lines) = (line.length < 2 ^ 32) × AreShort lines
 
 -- lines that a source may have, each of 32 bits
 pub record AreSound (lines : List MarkedLine) : Type 0 where
@@ -90,3 +88,7 @@ pub record AgreeBy (ps back : List Placed) (old new : Marked) : Type 0 where
 pub record AreAgreed (changes : List Change) (old new : List MarkedLine) : Type 0 where
   pub order : are_in_order changes ≡ true
   pub agree : Agree changes (marked_text old) (marked_text new)
+
+-- a tree that stands for the old lines is one whose nodes a parse of the new lines may take
+abbrev pub MayBeReused : List Change → List MarkedLine → List MarkedLine → Type 0
+MayBeReused changes old new = (limit : ℕ) (t : Tree) → StandsFor limit t old → Since limit t changes new

@@ -1,6 +1,7 @@
 ghost use Rattle.std.specs.Prelude.{◌≡◌, ◌<◌, true, length, IfOk, IfSome};
 ghost use Rattle.change_defs.specs.declared.Placed.{Placed};
-ghost use Rattle.agreement_check.specs.Checks.{AreSameBy, AgreeBy, AreAgreed, moved_marks};
+ghost use Rattle.agreement_check.specs.Checks.{AreSameBy, AgreeBy, AreAgreed, MayBeReused, moved_marks};
+ghost use Rattle.mark_source.specs.Source.{AreMarked};
 ghost use Rattle.std.specs.Prelude.{filter};
 ghost use Rattle.change_defs.specs.Agreement.{is_clear};
 
@@ -76,10 +77,12 @@ pub fn agreed(
     old: &MarkLines,
     new: &MarkLines,
 ) -> Result<Option<Spans>, AllocError>
+    requires marked { AreMarked old.now }
     requires old { 0 < length old.now }
     requires new { 0 < length new.now }
     ensures spans { IfOk result (λ o. IfSome o (λ s. s ≡ changes.now)) }
     ensures agreed { IfOk result (λ o. IfSome o (λ s. AreAgreed changes.now old.now new.now)) }
+    ensures reuse { IfOk result (λ o. IfSome o (λ s. MayBeReused s old.now new.now)) }
 {
     let Some(laid) = places_of(alloc, changes)? else {
         return Ok(None);
