@@ -14,8 +14,9 @@ use Rattle.change_defs.specs.declared.Placed.{Placed}
 use Rattle.change_defs.specs.Changes.{is_less, carried, first_joint, is_inside, image_by, are_in_order}
 use Rattle.change_defs.specs.Agreement.{Marked, Agree, start_of, is_clear, is_uncut}
 use Rattle.tree_defs.specs.Tree.{Tree}
-use Rattle.reuse_parser.specs.Reusing.{Since, AreShort}
-use Rattle.reuse_parser.specs.Whole.{StandsFor}
+use Rattle.reuse_defs.specs.Since.{Since}
+use Rattle.reuse_defs.specs.Whole.{StandsFor}
+use Rattle.reuse_parser.specs.Reusing.{AreShort}
 
 -- what agreement sees of lines
 abbrev pub marked_text : List MarkedLine → Marked

@@ -21,14 +21,14 @@ prepared_of r = record {
 abbrev pub HasEntry : Ready → Type 0
 HasEntry r = r.entry < length (entries_of (rc_value r.selector))
 
--- where it has a key, it holds of no scopes without a name that has this key
-abbrev pub HasKey : Ready → Type 0
-HasKey r = IfSome r.key (Needs (entry_at (rc_value r.selector) r.entry).matcher)
+-- where it has keys, it holds of no scopes that don't meet what needs them
+abbrev pub HasNeeded : Ready → Type 0
+HasNeeded r = IfSome r.needed (Needs (entry_at (rc_value r.selector) r.entry).matcher)
 
 -- it has the patterns of its rule, which fit a table
 pub record IsReady (table : Table) (r : Ready) : Type 0 where
   pub entry : HasEntry r
-  pub key : HasKey r
+  pub needed : HasNeeded r
   pub choices : rc_value r.choices ≡ group_choices table.rules r.rule.0
   pub fit : AreOf (length table.rules) table.groups (rc_value r.choices)
 
@@ -43,6 +43,6 @@ prepared_in i = map prepared_of i.ready.items
 
 pub record IsInjected (i : Inside) : Type 0 where
   pub entries : All HasEntry i.ready.items
-  pub keys : All HasKey i.ready.items
+  pub needed : All HasNeeded i.ready.items
   pub some : 0 < length i.asked.items
   pub asked : All (IsAsked (prepared_in i)) i.asked.items

@@ -6,7 +6,7 @@ ghost use Rattle.line_defs.specs.Search.{scan};
 ghost use Rattle.line_search.specs.Choices.{AreOf, HaveOwners, choice_of_owned};
 ghost use Rattle.line_search.specs.Finds.{found_of, IfAt, IfNothing, IsOwner, IsPartFrom};
 ghost use Rattle.line_search.specs.Prepared.{prepared, all_prepared, group_choices, ArePrepared, HasRoomFor, holds_of, holding, NoneHolds, prepared_at, found_by_numbers, found_by_prepared};
-ghost use Rattle.line_search.specs.Asking.{prepared_of, HasEntry, HasKey, AreReady, IsAsked};
+ghost use Rattle.line_search.specs.Asking.{prepared_of, HasEntry, HasNeeded, AreReady, IsAsked};
 ghost use Rattle.line_search.specs.Bests.{kept_of, injected_of, step_by, beaten, starts_earlier, wins_over, IsBest, IfSomeBest, IfBest, IfNone, IfStep, IfNext};
 ghost use Rattle.line_defs.specs.Injections.{Kept, Injected as LineInjected, after_one};
 
@@ -17,7 +17,7 @@ use onig_match::Work;
 use pattern_defs::Flags;
 use rule_table::{Injection, RuleId, RuleKind, RuleTable};
 use scope_names::Scopes;
-use selectors::Selector;
+use selectors::{Needed, Selector, may_meet};
 use std::alloc::{AllocError, Global};
 use std::marker::Model;
 use std::rc::Rc;
@@ -31,8 +31,8 @@ const MOST_ASKED: u64 = 64;
 struct Ready {
     selector: Rc<Selector>,
     entry: u64,
-    /// The key of a name that scopes need for it to hold, where it is known that they need one.
-    key: Option<u64>,
+    /// Keys that scopes need for it to hold, where it is known that they need some.
+    needed: Option<Needed>,
     /// Whether it goes before an ordinary match at the same place.
     first: bool,
     rule: RuleId,
@@ -141,7 +141,7 @@ fn push_ready(
     ready.push(Ready {
         selector: injection.selector.clone()?,
         entry: injection.entry,
-        key: injection.selector.needed_key(injection.entry),
+        needed: injection.selector.needed_keys(alloc, injection.entry)?,
         first: injection.priority == -1,
         rule: injection.rule,
         choices,
@@ -163,18 +163,18 @@ fn all_ready(alloc: Global, table: &RuleTable) -> Result<Vec<Ready>, AllocError>
 
 /// Whether an injection may hold of scopes, by the keys of their names.
 fn may_hold(ready: &Ready, scopes: &Scopes) -> bool
-    requires { HasKey ready.now }
+    requires { HasNeeded ready.now }
     ensures { (result ≡ false) → holds_of (prepared_of ready.now) scopes.now ≡ false }
 {
-    match ready.key {
-        Some(key) => scopes.may_have(key),
+    match &ready.needed {
+        Some(needed) => may_meet(scopes, needed.as_slice()),
         None => true,
     }
 }
 
 /// Whether one of the injections may hold of scopes, by the keys of their names.
 fn some_may_hold(ready: &[Ready], scopes: &Scopes) -> bool
-    requires { All HasKey ready.now }
+    requires { All HasNeeded ready.now }
     ensures { (result ≡ false) → NoneHolds scopes.now (map prepared_of ready.now) }
 {
     for one in ready {
@@ -193,7 +193,7 @@ fn push_holding(
     scopes: &Scopes,
 ) -> Result<(), AllocError>
     requires entry { HasEntry ready.now }
-    requires key { HasKey ready.now }
+    requires needed { HasNeeded ready.now }
     ensures { OnOk result (numbers.new ≡ numbers.old ++ holding scopes.now number (prepared_of ready.now ∷ [])) }
 {
     if may_hold(ready, scopes) && ready.selector.holds(ready.entry, scopes) {
@@ -205,7 +205,7 @@ fn push_holding(
 /// Which injections hold of scopes.
 fn holding(alloc: Global, ready: &[Ready], scopes: &Scopes) -> Result<Rc<Numbers>, AllocError>
     requires entries { All HasEntry ready.now }
-    requires keys { All HasKey ready.now }
+    requires needed { All HasNeeded ready.now }
     ensures { IfOk result (λ numbers. rc_value numbers ≡ holding scopes.now 0 (map prepared_of ready.now)) }
 {
     let mut numbers = Numbers::new(alloc);
@@ -218,7 +218,7 @@ fn holding(alloc: Global, ready: &[Ready], scopes: &Scopes) -> Result<Rc<Numbers
 /// Room for scopes that are asked for, all filled with the answer for none.
 fn all_asked(alloc: Global, ready: &[Ready]) -> Result<Vec<Asked>, AllocError>
     requires entries { All HasEntry ready.now }
-    requires keys { All HasKey ready.now }
+    requires needed { All HasNeeded ready.now }
     ensures some { IfOk result (λ asked. 0 < length asked.items) }
     ensures asked { IfOk result (λ asked. All (IsAsked (map prepared_of ready.now)) asked.items) }
 {
@@ -241,7 +241,7 @@ fn ask(
     scopes: &Scopes,
 ) -> Result<usize, AllocError>
     requires entries { All HasEntry ready.now }
-    requires keys { All HasKey ready.now }
+    requires needed { All HasNeeded ready.now }
     requires some { 0 < length asked.old.items }
     requires asked { All (IsAsked (map prepared_of ready.now)) asked.old.items }
     ensures some { 0 < length asked.new.items }

@@ -16,7 +16,8 @@ use Rattle.tree_defs.specs.Ends.{in_lines}
 use Rattle.reuse_parser.specs.declared.place.Around.{Around}
 use Rattle.reuse_parser.specs.Parsing.{start_of, end_of, size_of, next_start, Follow, Stopped, Fine, role_has, front_has}
 use Rattle.reuse_parser.specs.Parsing as parsing
-use Rattle.reuse_parser.specs.Reusing.{ahead_of, lengths_of, IsIn, Adds, Fills, InLines}
+use Rattle.reuse_defs.specs.Since.{lengths_of}
+use Rattle.reuse_parser.specs.Reusing.{ahead_of, IsIn, Adds, Fills, InLines}
 use Rattle.reuse_parser.proofs.Marks.{size_ends, in_line, is_at, not_less_itself, not_both}
 use Rattle.reuse_parser.proofs.Single.{holds_next}
 use Rattle.reuse_parser.proofs.Pairs.{stands_within, kind_above, above_kept, none_in}

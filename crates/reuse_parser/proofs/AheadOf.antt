@@ -15,7 +15,8 @@ use Rattle.tree_defs.specs.Ends.{in_lines}
 use Rattle.tree_defs.specs.Rows.{place, start}
 use Rattle.reuse_parser.specs.declared.place.Around.{Around}
 use Rattle.reuse_parser.specs.Parsing.{start_of, end_of, next_start, Follow, HoldsAt, IsWithin}
-use Rattle.reuse_parser.specs.Reusing.{ahead_of, lengths_of, IsIn}
+use Rattle.reuse_defs.specs.Since.{lengths_of}
+use Rattle.reuse_parser.specs.Reusing.{ahead_of, IsIn}
 use Rattle.reuse_parser.proofs.Sources.{first_place, marks_follow, lines_hold, end_holds, not_before}
 
 -- ---- places in order

@@ -24,7 +24,8 @@ use Rattle.tree_defs.proofs.Opened.{IsMore, passes_of, cut_then, reused_more}
 use Rattle.tree_defs.proofs.Parts.{Splits, splits}
 use Rattle.reuse_parser.specs.declared.place.Around.{Around}
 use Rattle.reuse_parser.specs.Parsing.{start_of, end_of}
-use Rattle.reuse_parser.specs.Reusing.{lengths_of, IsIn, Since, IsFound, HasRoom, AreShort, Adds, InLines}
+use Rattle.reuse_defs.specs.Since.{lengths_of, Since}
+use Rattle.reuse_parser.specs.Reusing.{IsIn, IsFound, HasRoom, AreShort, Adds, InLines}
 use Rattle.reuse_parser.proofs.Sources.{marks_follow, last_line}
 use Rattle.reuse_parser.proofs.AheadOf.{up_to, up_to_itself, from_plus, mark_less}
 use Rattle.reuse_parser.proofs.Reused.{Ended, ended, reused_adds}

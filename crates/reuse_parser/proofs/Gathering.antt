@@ -18,7 +18,8 @@ use Rattle.reuse_parser.specs.declared.relist.Stop.{Stop}
 use Rattle.reuse_parser.specs.Parsing.{start_of, end_of, size_of, Follow, Stopped, Fine, role_has, front_has}
 use Rattle.reuse_parser.specs.Parsing as parsing
 use Rattle.reuse_parser.specs.declared.old.Old.{Old}
-use Rattle.reuse_parser.specs.Reusing.{ahead_of, lengths_of, IsIn, Adds, Fills, InLines}
+use Rattle.reuse_defs.specs.Since.{lengths_of}
+use Rattle.reuse_parser.specs.Reusing.{ahead_of, IsIn, Adds, Fills, InLines}
 use Rattle.reuse_parser.specs.Reading.{Lasts, IsStop, LeftAt, StandsAt, closer_has}
 use Rattle.reuse_parser.specs.Olds.{IsReady}
 use Rattle.reuse_parser.proofs.Marks.{size_ends, in_line, is_at}

@@ -7,7 +7,8 @@ use Rattle.mark_source.specs.Source.{Source}
 use Rattle.tree_defs.specs.Tree.{Tree}
 use Rattle.reuse_parser.specs.declared.place.Around.{Around}
 use Rattle.reuse_parser.specs.declared.old.Old.{Old}
-use Rattle.reuse_parser.specs.Reusing.{Since, AreShort}
+use Rattle.reuse_defs.specs.Since.{Since}
+use Rattle.reuse_parser.specs.Reusing.{AreShort}
 use Rattle.reuse_parser.specs.Reading.{StandsAt}
 use Rattle.reuse_parser.specs.Olds.{IsReady, IsSame, IsSince, Went}
 use Rattle.reuse_parser.proofs.Gathering.{Gathered}

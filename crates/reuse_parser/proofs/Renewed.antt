@@ -24,10 +24,11 @@ use Rattle.reuse_parser.specs.declared.place.Around.{Around}
 use Rattle.reuse_parser.specs.declared.old.Old.{Old}
 use Rattle.reuse_parser.specs.declared.relist.Stop.{Stop}
 use Rattle.reuse_parser.specs.Parsing.{Stopped, role_has}
-use Rattle.reuse_parser.specs.Reusing.{ahead_of, lengths_of, IsIn, AreShort, Fills}
+use Rattle.reuse_defs.specs.Since.{lengths_of}
+use Rattle.reuse_parser.specs.Reusing.{ahead_of, IsIn, AreShort, Fills}
 use Rattle.reuse_parser.specs.Reading.{StandsAt, IsStop, LeftAt}
 use Rattle.reuse_parser.specs.Olds.{Went}
-use Rattle.reuse_parser.specs.Whole.{StandsFor}
+use Rattle.reuse_defs.specs.Whole.{StandsFor}
 use Rattle.reuse_parser.proofs.AheadOf.{up_to_itself}
 use Rattle.reuse_parser.proofs.Reused.{in_fits, weaker}
 use Rattle.reuse_parser.proofs.Sources.{first_place, all_marks, marks_follow, some_of, nothing_open, not_before}

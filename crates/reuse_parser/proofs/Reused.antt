@@ -19,7 +19,8 @@ use Rattle.tree_defs.proofs.Parts.{Splits, splits, joins, EndsShut}
 use Rattle.tree_defs.proofs.Relevel.{relevels}
 use Rattle.reuse_parser.specs.declared.place.Around.{Around}
 use Rattle.reuse_parser.specs.Parsing.{NoneBy}
-use Rattle.reuse_parser.specs.Reusing.{ahead_of, lengths_of, Adds, InLines, AreShort}
+use Rattle.reuse_defs.specs.Since.{lengths_of}
+use Rattle.reuse_parser.specs.Reusing.{ahead_of, Adds, InLines, AreShort}
 
 -- ---- where nodes end
 -- the items of a tree end as they are long, and others may stand in place of what follows them

@@ -30,7 +30,7 @@ use Rattle.reuse_parser.specs.Parsing.{Follow, Listed, last_place, role_has, All
 use Rattle.std.specs.List.{slice_get}
 use Rattle.std.proofs.lemmas.List.{length-append}
 use Rattle.tree_defs.specs.Ends.{fits, in_lines}
-use Rattle.reuse_parser.specs.Whole.{StandsFor}
+use Rattle.reuse_defs.specs.Whole.{StandsFor}
 
 abbrev pub first_place : Pos
 first_place = record { line = 0; col = 0 }

@@ -22,7 +22,8 @@ use Rattle.reuse_parser.specs.declared.place.Around.{Around}
 use Rattle.reuse_parser.specs.declared.old.Old.{Old}
 use Rattle.reuse_parser.specs.declared.relist.Stop.{Stop}
 use Rattle.reuse_parser.specs.Parsing.{start_of, end_of, size_of, next_start, Follow, Stopped, IsAround, IsWithin, role_has}
-use Rattle.reuse_parser.specs.Reusing.{ahead_of, lengths_of, IsIn, IsFound, AreShort, Adds, Fills}
+use Rattle.reuse_defs.specs.Since.{lengths_of}
+use Rattle.reuse_parser.specs.Reusing.{ahead_of, IsIn, IsFound, AreShort, Adds, Fills}
 use Rattle.reuse_parser.specs.Reading.{StandsAt, IsStop, Lasts, IsMark, closer_has}
 use Rattle.reuse_parser.specs.Olds.{IsReady, IsSame, IsSince, Went}
 use Rattle.reuse_parser.proofs.Adding.{IsMet, met, text_adds, cut_adds, lone_adds, pair_adds}

@@ -13,7 +13,8 @@ use Rattle.tree_defs.specs.Items.{IsOpener}
 use Rattle.change_defs.specs.declared.Change.{Change}
 use Rattle.reuse_parser.specs.declared.place.Around.{Around}
 use Rattle.reuse_parser.specs.Parsing.{start_of, end_of, size_of, next_start, role_has, IsWithin}
-use Rattle.reuse_parser.specs.Reusing.{ahead_of, IsIn, Since, IsFound, AreShort, Adds, Fills}
+use Rattle.reuse_defs.specs.Since.{Since}
+use Rattle.reuse_parser.specs.Reusing.{ahead_of, IsIn, IsFound, AreShort, Adds, Fills}
 
 -- the text up to the next mark
 abbrev pub TextAdds : Type 0

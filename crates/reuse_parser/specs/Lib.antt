@@ -3,4 +3,3 @@ pub mod Olds
 pub mod Parsing
 pub mod Reading
 pub mod Reusing
-pub mod Whole

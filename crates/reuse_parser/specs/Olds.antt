@@ -6,7 +6,8 @@ use Rattle.text_pos.specs.declared.length.Length.{Length}
 use Rattle.text_pos.specs.Lengths.{IsLess}
 use Rattle.change_defs.specs.Changes.{before}
 use Rattle.reuse_parser.specs.declared.old.Old.{Old}
-use Rattle.reuse_parser.specs.Reusing.{Since, AreShort}
+use Rattle.reuse_defs.specs.Since.{Since}
+use Rattle.reuse_parser.specs.Reusing.{AreShort}
 
 -- no old place of the new places from one on lies before what was read
 abbrev pub IsReady : Old → Length → Type 0

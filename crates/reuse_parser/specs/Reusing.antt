@@ -1,5 +1,5 @@
 -- What of an old tree stands in a new text: where a node is found, and what it adds to a list there.
-use Rattle.std.specs.Prelude.{◌≡◌, ℕ, ◌+◌, ◌<◌, ◌≤◌, ◌^◌, List, [], ◌∷◌, ◌++◌, length, map, Bool, true, false, Option, Some, None}
+use Rattle.std.specs.Prelude.{◌≡◌, ℕ, ◌+◌, ◌<◌, ◌≤◌, ◌^◌, List, [], ◌∷◌, ◌++◌, length, Bool, false, Option, Some, None}
 use Rattle.text_pos.specs.declared.length.Length.{Length}
 use Rattle.text_pos.specs.Lengths.{plus, IsLess}
 use Rattle.pairing_defs.specs.declared.Mark.{Mark}
@@ -13,20 +13,16 @@ use Rattle.tree_defs.specs.Items as items
 use Rattle.tree_defs.specs.Ends.{EndAt, in_lines}
 use Rattle.tree_defs.specs.Rows.{place, start}
 use Rattle.change_defs.specs.declared.Change.{Change}
-use Rattle.change_defs.specs.Changes.{before, distance, are_in_order}
-use Rattle.change_defs.specs.Agreement.{Agree}
+use Rattle.change_defs.specs.Changes.{before, distance}
 use Rattle.reuse_parser.specs.declared.place.Around.{Around}
 use Rattle.reuse_parser.specs.Parsing.{Fine, front_has}
-use Rattle.reuse_parser.specs.Whole.{StandsFor}
+use Rattle.reuse_defs.specs.Since.{lengths_of}
 
 -- ---- places of the new text
 
 -- the marks of lines from a place on
 abbrev pub ahead_of : List MarkedLine → Length → List Mark
 ahead_of lines at = marks_from (place at) (marks_in lines)
-
-abbrev pub lengths_of : List MarkedLine → List ℕ
-lengths_of lines = map (λ l. l.length) lines
 
 -- a place of a text whose end is known
 pub record IsIn (lines : List MarkedLine) (a : Around) (at : Length) : Type 0 where
@@ -70,21 +66,7 @@ pub record IsFound (old : tree.Tree) (changes : List Change) (a : Around) (at : 
   pub can : CanBeReused a.above a.level a.limit t
   pub some : is_bare t ≡ false
 
--- a tree stands for the marks of old lines, which agree outside changes with those of new lines; and each new line is of
--- 32 bits
-pub record Since (limit : ℕ) (t : tree.Tree) (changes : List Change) (lines : List MarkedLine) : Type 0 where
-  pub old : List MarkedLine
-  pub last : Length
-  pub new_last : Length
-  pub marked : AreMarked old
-  pub some : 0 < length old
-  pub is_last : place last ≡ text_end old
-  pub is_new_last : place new_last ≡ text_end lines
-  pub order : are_in_order changes ≡ true
-  pub stands : StandsFor limit t old
-  pub agree : Agree changes (record { marks = marks_in old; lines = lengths_of old; end = last })
-      (record { marks = marks_in lines; lines = lengths_of lines; end = new_last })
-
+-- each line is of 32 bits
 abbrev pub AreShort : List MarkedLine → Type 0
 AreShort [] = Unit {0}
 AreShort (line ∷ lines) = (line.length < 2 ^ 32) × AreShort lines

@@ -2,9 +2,10 @@ ghost use Rattle.std.specs.Prelude.{◌≡◌, ◌+◌, ◌≤◌, ◌<◌, leng
 ghost use Rattle.bracket_marks.specs.MarkedLine.{marks_in, text_end};
 ghost use Rattle.mark_source.specs.Source.{AreMarked};
 ghost use Rattle.bracket_ast.specs.Shapes.{or_nothing, SoundInside};
-ghost use Rattle.reuse_parser.specs.Whole.{StandsFor};
+ghost use Rattle.reuse_defs.specs.Whole.{StandsFor};
 ghost use Rattle.reuse_parser.specs.Parsing.{given_after};
-ghost use Rattle.reuse_parser.specs.Reusing.{Since, AreShort};
+ghost use Rattle.reuse_defs.specs.Since.{Since};
+ghost use Rattle.reuse_parser.specs.Reusing.{AreShort};
 
 use crate::gather::gather;
 use crate::list::parse_list;

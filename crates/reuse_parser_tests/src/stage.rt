@@ -30,7 +30,7 @@ impl Model for Stage {
     ghost use Rattle.bracket_marks.specs.MarkedLine.{marks_in};
     ghost use Rattle.bracket_ast.specs.Shapes.{or_nothing};
     ghost use Rattle.agreement_check.specs.Checks.{AreSound};
-    ghost use Rattle.reuse_parser.specs.Whole.{StandsFor};
+    ghost use Rattle.reuse_defs.specs.Whole.{StandsFor};
 
     ghost Value = { List MarkedLine };
 

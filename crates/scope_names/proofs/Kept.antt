@@ -9,7 +9,7 @@ use Rattle.scope_defs.specs.declared.types.StdType.{StdType}
 use Rattle.scope_defs.specs.declared.types.StdType.TheVariants.{Other}
 use Rattle.scope_defs.specs.Scopes.{Name, Scopes}
 use Rattle.scope_defs.specs.StandardType.{type_of_name, last_or, type_of}
-use Rattle.scope_names.specs.Keys.{key_of, keys_of, with_key}
+use Rattle.scope_names.specs.Keys.{keys_of, with_name}
 use Rattle.scope_names.specs.Numbers.{mixed, name_number, scopes_number}
 use Rattle.scope_names.specs.declared.keys.KeyBits.{KeyBits}
 use Rattle.scope_names.specs.declared.scopes.Pushed.{Pushed}
@@ -31,7 +31,7 @@ pub record Pushes (scopes : Scopes) (names : List Name) (added : ℕ) (p : Pushe
   pub kind : p.kind ≡ last_or (type_of scopes) (filter_map type_of_name (take added names))
   pub number : p.number ≡ fold (λ before name. mixed before (name_number name)) (scopes_number scopes)
       (take added names)
-  pub keys : p.keys ≡ fold (λ before name. with_key before (key_of name)) (keys_of scopes) (take added names)
+  pub keys : p.keys ≡ fold with_name (keys_of scopes) (take added names)
 
 pushes_names : (scopes : Scopes) (names : List Name) (added : ℕ) (p : Pushed) → Pushes scopes names added p
     → pushed_names p ≡ scopes ++ take added names
@@ -50,7 +50,7 @@ pushes_kept scopes names added p is some within few =
       kind = is.kind ∙ (sym (type_of-append scopes (take added names)) ∙ ap type_of (sym all));
       number = is.number ∙ (sym (fold-append (λ before name. mixed before (name_number name)) _ scopes
           (take added names)) ∙ ap scopes_number (sym all));
-      keys = is.keys ∙ (sym (fold-append (λ before name. with_key before (key_of name)) _ scopes
+      keys = is.keys ∙ (sym (fold-append with_name _ scopes
           (take added names)) ∙ ap keys_of (sym all));
     }
 
@@ -71,7 +71,7 @@ number_is number before after xs ys is same alike =
     is ∙ (ap (λ k. numbered k xs) same ∙ ap (λ zs. numbered after zs) alike)
 
 abbrev pub keyed : KeyBits → List Name → KeyBits
-keyed keys names = fold (λ before name. with_key before (key_of name)) keys names
+keyed keys names = fold with_name keys names
 
 pub keys_are : (keys before after : KeyBits) (xs ys : List Name) → keys ≡ keyed before xs → before ≡ after → xs ≡ ys
     → keys ≡ keyed after ys

@@ -3,8 +3,8 @@ use Rattle.std.proofs.Common.{◌≡◌, ℕ, ◌*◌, ◌/◌, ◌%◌, ◌^◌
 use Rattle.std.proofs.Common.{arith, w64}
 use Rattle.std.specs.Int.{bit_at}
 use Rattle.std.proofs.lemmas.Nat.Bits.{bit_at_or, bit_at_set_same, bit_at-lt}
-use Rattle.scope_defs.specs.Scopes.{Scopes}
-use Rattle.scope_names.specs.Keys.{HasNoKey, key_of, keys_of, with_key, with_bit, may_have, no_keys}
+use Rattle.scope_defs.specs.Scopes.{Name, Scopes}
+use Rattle.scope_names.specs.Keys.{HasNoKey, key_of, first_key, keys_of, with_key, with_name, with_bit, may_have, no_keys}
 use Rattle.scope_names.specs.declared.keys.KeyBits.{KeyBits}
 
 -- the bits of a key are there
@@ -36,13 +36,23 @@ key_set keys key = record {
   high = bit_set keys.high (key / 2 ^ 32 % 64) (omega arith);
 }
 
+name_stays : (keys : KeyBits) (name : Name) (key : ℕ) → HasBits keys key → HasBits (with_name keys name) key
+name_stays keys name key has =
+    key_stays (with_key keys (first_key name)) (key_of name) key (key_stays keys (first_key name) key has)
+
+first_set : (keys : KeyBits) (name : Name) → HasBits (with_name keys name) (first_key name)
+first_set keys name =
+    key_stays (with_key keys (first_key name)) (key_of name) (first_key name) (key_set keys (first_key name))
+
+both_set : (keys : KeyBits) (name : Name) → HasBits (with_name keys name) (key_of name)
+both_set keys name = key_set (with_key keys (first_key name)) (key_of name)
+
 abbrev behind : KeyBits → Scopes → KeyBits
-behind keys names = fold (λ before name. with_key before (key_of name)) keys names
+behind keys names = fold with_name keys names
 
 stays_behind : (keys : KeyBits) (names : Scopes) (key : ℕ) → HasBits keys key → HasBits (behind keys names) key
 stays_behind keys [] key has = has
-stays_behind keys (name ∷ names) key has =
-    stays_behind (with_key keys (key_of name)) names key (key_stays keys (key_of name) key has)
+stays_behind keys (name ∷ names) key has = stays_behind (with_name keys name) names key (name_stays keys name key has)
 
 bits_absurd : (keys : KeyBits) (key : ℕ) → HasBits keys key → may_have keys key ≡ false → ⊥
 bits_absurd keys key has not =
@@ -51,12 +61,14 @@ bits_absurd keys key has not =
 
 none_behind : (keys : KeyBits) (names : Scopes) (key : ℕ) → may_have (behind keys names) key ≡ false → HasNoKey key names
 none_behind keys [] key not = tt
-none_behind keys (name ∷ names) key not = (
-  λ is. bits_absurd (behind keys (name ∷ names)) key
-      (stays_behind (with_key keys (key_of name)) names key
-      (subst (λ k. HasBits (with_key keys (key_of name)) k) is (key_set keys (key_of name)))) not,
-  none_behind (with_key keys (key_of name)) names key not,
-)
+none_behind keys (name ∷ names) key not =
+    let set : (k : ℕ) → HasBits (with_name keys name) k → k ≡ key → ⊥ =
+    λ k has is. bits_absurd (behind keys (name ∷ names)) key
+    (stays_behind (with_name keys name) names key (subst (HasBits (with_name keys name)) is has)) not in (
+      set (key_of name) (both_set keys name),
+      set (first_key name) (first_set keys name),
+      none_behind (with_name keys name) names key not,
+    )
 
 pub no_key : (names : Scopes) (key : ℕ) → may_have (keys_of names) key ≡ false → HasNoKey key names
 no_key names key not = none_behind no_keys names key not

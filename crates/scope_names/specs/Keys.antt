@@ -1,5 +1,5 @@
--- Numbers of the first two parts of names, and bits that are kept of them for a list, so that most names which it
--- doesn't have are told without looking at its own.
+-- Numbers of the first part and of the first two parts of names, and bits that are kept of both for a list, so that most
+-- names which it doesn't have are told without looking at its own.
 use Rattle.std.specs.Prelude.{◌≡◌, ℕ, ◌*◌, ◌/◌, ◌%◌, ◌^◌, ◌==◌, ◌&&◌, Bool, true, false, [], ◌∷◌, fold, bit_or}
 use Rattle.std.specs.Prelude.{if◌then◌else◌}
 use Rattle.std.specs.Int.{bit_at}
@@ -18,14 +18,14 @@ key_from number dotted (c ∷ cs) =
 abbrev pub key_of : Name → ℕ
 key_of name = key_from SEED false name
 
-abbrev pub has_dot : Name → Bool
-has_dot [] = false
-has_dot (c ∷ cs) = if c == 46 then true else has_dot cs
+-- the number of what stands before the first dot
+abbrev pub first_key : Name → ℕ
+first_key name = key_from SEED true name
 
--- no name of the list has this key
+-- neither of these of a name of the list is this key
 abbrev pub HasNoKey : ℕ → Scopes → Type 0
 HasNoKey key [] = Unit {0}
-HasNoKey key (name ∷ names) = (key_of name ≡ key → ⊥) × HasNoKey key names
+HasNoKey key (name ∷ names) = (key_of name ≡ key → ⊥) × (first_key name ≡ key → ⊥) × HasNoKey key names
 
 -- ---- the bits of a list
 
@@ -49,5 +49,8 @@ abbrev pub may_have : KeyBits → ℕ → Bool
 may_have keys key =
     has_bit keys.low (key % 64) && (has_bit keys.middle (key / 2 ^ 16 % 64) && has_bit keys.high (key / 2 ^ 32 % 64))
 
+abbrev pub with_name : KeyBits → Name → KeyBits
+with_name keys name = with_key (with_key keys (first_key name)) (key_of name)
+
 abbrev pub keys_of : Scopes → KeyBits
-keys_of scopes = fold (λ keys name. with_key keys (key_of name)) no_keys scopes
+keys_of scopes = fold with_name no_keys scopes

@@ -1,14 +1,14 @@
 ghost use Rattle.std.specs.Prelude.{◌≡◌, ◌<◌};
-ghost use Rattle.scope_names.specs.Keys.{key_of, with_bit, has_bit, no_keys, with_key, may_have};
+ghost use Rattle.scope_names.specs.Keys.{key_from, key_of, first_key, with_bit, has_bit, no_keys, with_key, may_have};
 
 use crate::numbers::{SEED, mixed};
 
-/// The number that is made of a name up to its second dot, so of its first two parts.
-pub fn key_of(name: &[u8]) -> u64
-    ensures { result ≡ key_of name.now }
+/// The number that is made of a name up to its second dot, or up to its first where one was met already.
+fn key_from(name: &[u8], met: bool) -> u64
+    ensures { result ≡ key_from SEED met name.now }
 {
     let mut number = SEED;
-    let mut dotted = false;
+    let mut dotted = met;
     for c in name {
         if *c == b'.' {
             if dotted {
@@ -19,6 +19,20 @@ pub fn key_of(name: &[u8]) -> u64
         number = mixed(number, u64::from(*c));
     }
     number
+}
+
+/// The number that is made of a name's first two parts, or of the one that it has.
+pub fn key_of(name: &[u8]) -> u64
+    ensures { result ≡ key_of name.now }
+{
+    key_from(name, false)
+}
+
+/// The number that is made of a name's first part.
+pub(crate) fn first_key(name: &[u8]) -> u64
+    ensures { result ≡ first_key name.now }
+{
+    key_from(name, true)
 }
 
 /// Which keys the names of a list have: a bit for each of three parts of a key. Most keys that none of them has are told

@@ -1,9 +1,9 @@
 ghost use Rattle.std.specs.Prelude.{◌≡◌, IfOk};
 ghost use Rattle.scope_defs.specs.StandardType.{type_of_name};
-ghost use Rattle.scope_names.specs.Keys.{key_of};
+ghost use Rattle.scope_names.specs.Keys.{key_of, first_key};
 ghost use Rattle.scope_names.specs.Numbers.{name_number};
 
-use crate::keys::key_of;
+use crate::keys::{first_key, key_of};
 use crate::numbers::name_number;
 use crate::words::type_of_name;
 use scope_defs::StdType;
@@ -19,6 +19,8 @@ pub(crate) struct Piece {
     kind: Option<StdType>,
     /// The number that is made of its bytes.
     number: u64,
+    /// The number that is made of its first part.
+    first: u64,
     /// The number that is made of its first two parts.
     key: u64,
 }
@@ -26,14 +28,14 @@ pub(crate) struct Piece {
 impl Model for Piece {
     ghost use Rattle.std.specs.Prelude.{◌≡◌, List, ℕ};
     ghost use Rattle.scope_defs.specs.StandardType.{type_of_name};
-    ghost use Rattle.scope_names.specs.Keys.{key_of};
+    ghost use Rattle.scope_names.specs.Keys.{key_of, first_key};
     ghost use Rattle.scope_names.specs.Numbers.{name_number};
 
     ghost Value = { List ℕ };
 
     ghost view = { λ piece. piece.text };
 
-    ghost invariant = { λ piece. (piece.kind ≡ type_of_name piece.text) × (piece.number ≡ name_number piece.text) × (piece.key ≡ key_of piece.text) };
+    ghost invariant = { λ piece. (piece.kind ≡ type_of_name piece.text) × (piece.number ≡ name_number piece.text) × (piece.first ≡ first_key piece.text) × (piece.key ≡ key_of piece.text) };
 }
 
 impl Piece {
@@ -42,11 +44,13 @@ impl Piece {
     {
         let kind = type_of_name(text.as_bytes());
         let number = name_number(text.as_bytes());
+        let first = first_key(text.as_bytes());
         let key = key_of(text.as_bytes());
         Ok(Piece {
             text: Name::of(alloc, text)?,
             kind,
             number,
+            first,
             key,
         })
     }
@@ -67,6 +71,12 @@ impl Piece {
         ensures { result ≡ name_number self.now }
     {
         self.number
+    }
+
+    pub(crate) fn first_key(&self) -> u64
+        ensures { result ≡ first_key self.now }
+    {
+        self.first
     }
 
     pub(crate) fn key(&self) -> u64

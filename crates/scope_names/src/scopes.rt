@@ -3,7 +3,7 @@ ghost use Rattle.std.specs.List.{filter_map};
 ghost use Rattle.std.specs.Iterator.{YieldsFirstBy, item_count};
 ghost use Rattle.scope_defs.specs.Scopes.{with_names, push};
 ghost use Rattle.scope_defs.specs.StandardType.{type_of_name, last_or, type_of};
-ghost use Rattle.scope_names.specs.Keys.{HasNoKey, key_of, keys_of, with_key};
+ghost use Rattle.scope_names.specs.Keys.{HasNoKey, keys_of, with_name};
 ghost use Rattle.scope_names.specs.Numbers.{mixed, name_number, scopes_number};
 
 use crate::keys::KeyBits;
@@ -112,7 +112,7 @@ impl Scopes {
         }
     }
 
-    /// Whether one of the names may have this key. Where not, it is told without looking at the names.
+    /// Whether one of the names may have this key, or its first part. Where not, it is told without looking at the names.
     pub fn may_have(&self, key: u64) -> bool
         ensures { (result ≡ false) → HasNoKey key self.now }
     {
@@ -237,11 +237,11 @@ fn number_with(number: u64, names: &[Piece]) -> u64
 
 /// The bits of the keys of scopes with further names.
 fn keys_with(keys: KeyBits, names: &[Piece]) -> KeyBits
-    ensures { result ≡ fold (λ before name. with_key before (key_of name)) keys names.now }
+    ensures { result ≡ fold with_name keys names.now }
 {
     let mut all = keys;
     for name in names {
-        all = all.with(name.key());
+        all = all.with(name.first_key()).with(name.key());
     }
     all
 }

@@ -73,6 +73,10 @@ mod tests {
         assert!(rt; scopes.may_have(key_of("source.shell".as_bytes())));
         assert!(rt; scopes.may_have(key_of("string.quoted".as_bytes())));
         assert!(rt; !scopes.may_have(key_of("source.css".as_bytes())));
+        assert!(rt; scopes.may_have(key_of("source".as_bytes())));
+        assert!(rt; scopes.may_have(key_of("string".as_bytes())));
+        assert!(rt; !scopes.may_have(key_of("quoted".as_bytes())));
+        assert!(rt; !scopes.may_have(key_of("comment".as_bytes())));
         assert!(rt; !Scopes::empty().may_have(key_of("source.shell".as_bytes())));
         Ok(())
     }

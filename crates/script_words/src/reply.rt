@@ -14,7 +14,7 @@ use text_pos::{Bytes, Pos, Span};
 /// What is written for a script line and before the first, and of a text in passing. The replies are this project's own.
 #[derive(Drop)]
 pub enum Reply {
-    /// How many lines the text has, and how many patterns of the grammar weren't read.
+    /// How many lines the text has, and how many patterns of the grammar and keys of its injections weren't read.
     Opened { lines: u32, unread: u32 },
     /// How many lines the text has now.
     Edited(u32),

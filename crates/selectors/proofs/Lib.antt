@@ -1,4 +1,5 @@
 pub mod Alike
+pub mod Covering
 pub mod FirstFaults
 pub mod FoundBack
 pub mod KeptEntries

@@ -1,22 +1,21 @@
--- A path whose first name has two parts needs a scope with the same key.
-use Rattle.std.proofs.Common.{◌≡◌, ℕ, Bool, true, false, ◌&&◌, ◌||◌, List, [], ◌∷◌, ◌++◌, length, drop, refl, sym, ◌∙◌, ap, subst}
-use Rattle.std.proofs.Common.{nat_eq, Option, Some, None, slice_get}
-use Rattle.std.specs.Prelude.{◌==◌, if◌then◌else◌, IfSome}
+-- A path needs names with the keys of its own names.
+use Rattle.std.proofs.Common.{◌≡◌, ℕ, Bool, true, false, ◌&&◌, ◌||◌, List, [], ◌∷◌, ◌++◌, length, drop, map, refl, sym, ◌∙◌, ap}
+use Rattle.std.proofs.Common.{nat_eq, ◌⊎◌, inl, inr}
+use Rattle.std.specs.Prelude.{◌==◌, if◌then◌else◌}
 use Rattle.std.specs.List.{starts_with}
 use Rattle.std.proofs.lemmas.Bool.{and_parts, true≢false}
 use Rattle.std.proofs.lemmas.Bool.Decides.{Decides-eqb}
 use Rattle.std.proofs.lemmas.Slice.Eq.{starts_is}
-use Rattle.scope_defs.specs.Scopes.{Name}
-use Rattle.scope_defs.specs.Selectors.{Entry, ends_part, name_matches, path_holds}
+use Rattle.scope_defs.specs.Scopes.{Name, Scopes}
+use Rattle.scope_defs.specs.Selectors.{ends_part, name_matches, path_holds}
 use Rattle.scope_names.specs.Numbers.{mixed}
-use Rattle.scope_names.specs.Keys.{key_from, key_of, has_dot}
+use Rattle.scope_names.specs.Keys.{key_from, key_of, first_key}
 use Rattle.scope_names.specs.declared.numbers.TheConstants.{SEED}
-use Rattle.selectors.specs.declared.sign.KeptEntry.{KeptEntry}
-use Rattle.selectors.specs.declared.sign.Sign.{Sign}
-use Rattle.selectors.specs.declared.verdict.Verdict.TheVariants.{Holds}
-use Rattle.selectors.specs.Meanings.{IsKept}
-use Rattle.selectors.specs.Needs.{Needs, PathNeeds, SignsNeed}
-use Rattle.selectors.specs.Verdicts.{run, is_true}
+use Rattle.selectors.specs.Needs.{LacksOne}
+
+abbrev has_dot : Name → Bool
+has_dot [] = false
+has_dot (c ∷ cs) = if c == 46 then true else has_dot cs
 
 -- where a part ends behind a name with a dot, its key is that of the whole
 
@@ -49,36 +48,67 @@ key_of_front number (c ∷ cs) rest dot ends =
     (key_from (mixed number c) false (cs ++ rest)) (key_from (mixed number c) false cs) dot
     (key_behind (mixed number c) cs rest ends) (λ is. key_of_front (mixed number c) cs rest is ends)
 
-same_key : (name scope : Name) → has_dot name ≡ true → name_matches name scope ≡ true → key_of scope ≡ key_of name
-same_key name scope dot matches =
+-- behind one without a dot, it is that of the first part
+
+same_plain : (b dot : Bool) (one other third fourth : ℕ) → (if b then true else dot) ≡ false
+    → (dot ≡ false → third ≡ fourth) → (if b then one else third) ≡ (if b then other else fourth)
+same_plain true dot one other third fourth is alike = absurd (true≢false is)
+same_plain false dot one other third fourth is alike = alike is
+
+first_of_front : (number : ℕ) (name rest : Name) → has_dot name ≡ false → ends_part rest ≡ true
+    → key_from number true (name ++ rest) ≡ key_from number false name
+first_of_front number [] [] dot ends = refl
+first_of_front number [] (c ∷ cs) dot ends = ended number (c == 46) (key_from (mixed number c) true cs) ends
+first_of_front number (c ∷ cs) rest dot ends =
+    same_plain (c == 46) (has_dot cs) number (key_from (mixed number c) true cs)
+    (key_from (mixed number c) true (cs ++ rest)) (key_from (mixed number c) false cs) dot
+    (λ is. first_of_front (mixed number c) cs rest is ends)
+
+-- so a scope which a name matches has the name's key
+
+has_key : (dot : Bool) (name rest : Name) → has_dot name ≡ dot → ends_part rest ≡ true
+    → (key_of (name ++ rest) ≡ key_of name) ⊎ (first_key (name ++ rest) ≡ key_of name)
+has_key true name rest dot ends = inl (key_of_front SEED name rest dot ends)
+has_key false name rest dot ends = inr (first_of_front SEED name rest dot ends)
+
+match_has : (name scope : Name) → name_matches name scope ≡ true
+    → (key_of scope ≡ key_of name) ⊎ (first_key scope ≡ key_of name)
+match_has name scope matches =
     let parts = and_parts (starts_with nat_eq scope name) (ends_part (drop (length name) scope)) matches in
     let split : scope ≡ name ++ drop (length name) scope =
     (starts_is Decides-eqb scope name true (sym parts.0)).0 refl in
-    ap key_of split ∙ key_of_front SEED name (drop (length name) scope) dot parts.1
+    elim (has_key (has_dot name) name (drop (length name) scope) refl parts.1) [
+      | inl is ↦ inl (ap key_of split ∙ is)
+      | inr is ↦ inr (ap first_key split ∙ is)
+    ]
+
+differs : (name scope : Name) → (key_of scope ≡ key_of name → ⊥) → (first_key scope ≡ key_of name → ⊥)
+    → name_matches name scope ≡ true → ⊥
+differs name scope whole first matches = elim (match_has name scope matches) [ inl is ↦ whole is | inr is ↦ first is ]
 
 no_match : (matches further behind : Bool) → (matches ≡ true → ⊥) → behind ≡ false
     → ((matches && further) || behind) ≡ false
 no_match true further behind none is = absurd (none refl)
 no_match false further behind none is = is
 
-path_lacks : (name : Name) (names : List Name) → has_dot name ≡ true → PathNeeds (name ∷ names) (key_of name)
-path_lacks name names dot [] none = refl
-path_lacks name names dot (scope ∷ scopes) none =
+none_further : (matches further behind : Bool) → further ≡ false → behind ≡ false
+    → ((matches && further) || behind) ≡ false
+none_further true further behind fails is = ap (λ b. b || behind) fails ∙ is
+none_further false further behind fails is = is
+
+lacks_behind : (keys : List ℕ) (scope : Name) (scopes : Scopes) → LacksOne keys (scope ∷ scopes) → LacksOne keys scopes
+lacks_behind [] scope scopes lacks = lacks
+lacks_behind (key ∷ keys) scope scopes (inl none) = inl none.2
+lacks_behind (key ∷ keys) scope scopes (inr lacks) = inr (lacks_behind keys scope scopes lacks)
+
+pub path_lacks : (scopes : Scopes) (names : List Name) → LacksOne (map key_of names) scopes
+    → path_holds names scopes ≡ false
+path_lacks scopes [] lacks = absurd lacks
+path_lacks [] (name ∷ names) lacks = refl
+path_lacks (scope ∷ scopes) (name ∷ names) (inl none) =
     no_match (name_matches name scope) (path_holds names scopes) (path_holds (name ∷ names) scopes)
-    (λ is. none.0 (same_key name scope dot is)) (path_lacks name names dot scopes none.1)
-
-pub path_needs : (names : List Name) (name : Name) (key : ℕ) → slice_get names 0 ≡ Some name → has_dot name ≡ true
-    → key ≡ key_of name → PathNeeds names key
-path_needs [] name key is dot same = cc
-path_needs (first ∷ names) name key is dot same =
-    let here : first ≡ name = cc in
-    subst (λ k. PathNeeds (first ∷ names) k) (ap key_of here ∙ sym same)
-    (path_lacks first names (ap has_dot here ∙ dot))
-
--- a key that the signs of an entry need, the entry needs
-pub needs_of_kept : (kept : KeptEntry) (entry : Entry) (signs : List Sign) (key : Option ℕ) → IsKept kept entry
-    → signs ≡ kept.signs → IfSome key (SignsNeed Holds signs) → IfSome key (Needs entry.matcher)
-needs_of_kept kept entry signs None is same need = tt
-needs_of_kept kept entry signs (Some key) is same need =
-    λ scopes none. sym (is.truth scopes)
-    ∙ (ap (λ all. is_true (run scopes all Holds)) (sym same) ∙ need scopes none)
+    (differs name scope none.0 none.1) (path_lacks scopes (name ∷ names) (inl none.2))
+path_lacks (scope ∷ scopes) (name ∷ names) (inr lacks) =
+    let rest = lacks_behind (map key_of names) scope scopes lacks in
+    none_further (name_matches name scope) (path_holds names scopes) (path_holds (name ∷ names) scopes)
+    (path_lacks scopes names rest) (path_lacks scopes (name ∷ names) (inr rest))

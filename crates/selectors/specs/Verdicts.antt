@@ -20,19 +20,23 @@ joined true false = Fails 0
 joined false true = Fails 0
 joined false false = Holds
 
+-- the verdict behind one more sign where an alternative is passed over, with so many parentheses open in it
+abbrev pub behind_failed : Sign → ℕ → Verdict
+behind_failed (Path names wanted) inside = Fails inside
+behind_failed Opens inside = Fails (inside + 1)
+behind_failed (Closes wanted) inside = if inside == 0 then joined false wanted else Fails (inside - 1)
+behind_failed Next inside = if inside == 0 then Holds else Fails inside
+
 -- the verdict behind one more sign
 abbrev pub behind : Scopes → Sign → Verdict → Verdict
+behind scopes sign (Fails inside) = behind_failed sign inside
 behind scopes (Path names wanted) Holds = joined (path_holds names scopes) wanted
-behind scopes (Path names wanted) (Fails inside) = Fails inside
 behind scopes (Path names wanted) (Held inside) = Held inside
 behind scopes Opens Holds = Holds
-behind scopes Opens (Fails inside) = Fails (inside + 1)
 behind scopes Opens (Held inside) = Held (inside + 1)
 behind scopes (Closes wanted) Holds = joined true wanted
-behind scopes (Closes wanted) (Fails inside) = if inside == 0 then joined false wanted else Fails (inside - 1)
 behind scopes (Closes wanted) (Held inside) = if inside == 0 then joined true wanted else Held (inside - 1)
 behind scopes Next Holds = Held 0
-behind scopes Next (Fails inside) = if inside == 0 then Holds else Fails inside
 behind scopes Next (Held inside) = Held inside
 
 abbrev pub run : Scopes → List Sign → Verdict → Verdict

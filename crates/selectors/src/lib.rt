@@ -2,7 +2,7 @@
 #![tactic(auto)]
 
 mod laws;
-mod needs;
+pub mod needs;
 mod paths;
 mod pile;
 mod reader;
@@ -12,5 +12,6 @@ mod sign;
 mod verdict;
 
 pub use laws::refusals_are_first_faults;
+pub use needs::{Needed, may_meet};
 pub use refusal::SelectorRefusal;
 pub use selector::Selector;

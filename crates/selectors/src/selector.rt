@@ -1,17 +1,17 @@
-ghost use Rattle.std.specs.Prelude.{◌≡◌, ◌<◌, length, slice_index_or, IfSome, MatchResult};
+ghost use Rattle.std.specs.Prelude.{◌≡◌, ◌<◌, length, slice_index_or, IfOk, IfSome, MatchResult};
 ghost use Rattle.scope_defs.specs.Selectors.{holds};
 ghost use Rattle.scope_defs.specs.SelectorSyntax.{entries_of, entry_at};
 ghost use Rattle.selectors.specs.Meanings.{IsKept};
 ghost use Rattle.selectors.specs.Needs.{Needs};
 ghost use Rattle.selectors.specs.Refused.{IsRead, Explains};
 
-use crate::needs::needed_key;
+use crate::needs::{Needed, needed_keys};
 use crate::reader::read_signs;
 use crate::refusal::SelectorRefusal;
 use crate::sign::KeptEntry;
 use crate::verdict::signs_hold;
 use scope_names::Scopes;
-use std::alloc::Global;
+use std::alloc::{AllocError, Global};
 use std::marker::Model;
 use text_pos::{Items, Name};
 
@@ -87,12 +87,12 @@ impl Selector {
         signs_hold(kept.signs.as_slice(), scopes)
     }
 
-    /// The key of a name that scopes need for an entry to hold, where it is known that they need one.
-    pub fn needed_key(&self, entry: u64) -> Option<u64>
+    /// Keys that scopes need for an entry to hold, where it is known that they need some.
+    pub fn needed_keys(&self, alloc: Global, entry: u64) -> Result<Option<Needed>, AllocError>
         requires { entry < length (entries_of self.now) }
-        ensures { IfSome result (Needs (entry_at self.now entry).matcher) }
+        ensures { IfOk result (λ needed. IfSome needed (Needs (entry_at self.now entry).matcher)) }
     {
         let kept = self.kept(entry);
-        needed_key(kept.signs.as_slice())
+        needed_keys(alloc, kept.signs.as_slice())
     }
 }

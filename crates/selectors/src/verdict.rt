@@ -1,5 +1,5 @@
 ghost use Rattle.std.specs.Prelude.{◌≡◌, ◌-◌, ◌<◌, ◌^◌};
-ghost use Rattle.selectors.specs.Verdicts.{behind, joined, run, is_true, depth};
+ghost use Rattle.selectors.specs.Verdicts.{behind, behind_failed, joined, run, is_true, depth};
 
 use crate::paths::path_holds;
 use crate::sign::Sign;
@@ -17,13 +17,38 @@ pub(crate) enum Verdict {
 }
 
 /// The verdict behind what must hold or must not.
-fn joined(holds: bool, wanted: bool) -> Verdict
+pub(crate) fn joined(holds: bool, wanted: bool) -> Verdict
     ensures { result ≡ joined holds wanted }
 {
     if holds == wanted {
         Verdict::Holds
     } else {
         Verdict::Fails { inside: 0 }
+    }
+}
+
+/// The verdict behind one more sign where an alternative is passed over, with so many parentheses open in it.
+pub(crate) fn behind_failed(inside: usize, sign: &Sign) -> Verdict
+    requires { inside < 2 ^ 64 - 1 }
+    ensures { result ≡ behind_failed sign.now inside }
+{
+    match sign {
+        Sign::Path { .. } => Verdict::Fails { inside },
+        Sign::Opens => Verdict::Fails { inside: inside + 1 },
+        Sign::Closes { wanted } => {
+            if inside == 0 {
+                joined(false, *wanted)
+            } else {
+                Verdict::Fails { inside: inside - 1 }
+            }
+        }
+        Sign::Next => {
+            if inside == 0 {
+                Verdict::Holds
+            } else {
+                Verdict::Fails { inside }
+            }
+        }
     }
 }
 
@@ -39,18 +64,7 @@ fn behind(verdict: Verdict, sign: &Sign, scopes: &Scopes) -> Verdict
             Sign::Closes { wanted } => joined(true, *wanted),
             Sign::Next => Verdict::Held { inside: 0 },
         },
-        Verdict::Fails { inside } => match sign {
-            Sign::Path { .. } => verdict,
-            Sign::Opens => Verdict::Fails { inside: inside + 1 },
-            Sign::Closes { wanted } => {
-                if inside == 0 {
-                    joined(false, *wanted)
-                } else {
-                    Verdict::Fails { inside: inside - 1 }
-                }
-            }
-            Sign::Next => { if inside == 0 { Verdict::Holds } else { verdict } }
-        },
+        Verdict::Fails { inside } => behind_failed(inside, sign),
         Verdict::Held { inside } => match sign {
             Sign::Path { .. } | Sign::Next => verdict,
             Sign::Opens => Verdict::Held { inside: inside + 1 },

@@ -4,8 +4,7 @@
 #[cfg(test)]
 mod tests {
     use scope_names::Scopes;
-    use scope_names::keys::key_of;
-    use selectors::{Selector, SelectorRefusal};
+    use selectors::{Selector, SelectorRefusal, may_meet};
     use std::alloc::{AllocError, Global};
     use std::test::Fail;
 
@@ -46,29 +45,55 @@ mod tests {
         Ok(())
     }
 
-    /// The key of a name that the first entry of a selector needs.
-    fn needed_key(alloc: Global, text: &str) -> Option<u64> {
-        let Ok(selector) = Selector::read(alloc, text) else {
-            return None;
-        };
+    /// Whether the keys that the first entry of a selector needs may be there in the scopes of a text; with no such keys
+    /// they may.
+    fn may_hold(alloc: Global, text: &str, scopes: &str) -> Result<bool, SelectorRefusal> {
+        let selector = Selector::read(alloc, text)?;
+        let scopes = Scopes::empty().push(alloc, scopes)?;
         if selector.entries() == 0 {
-            return None;
+            return Ok(true);
         }
-        selector.needed_key(0)
+        Ok(match selector.needed_keys(alloc, 0)? {
+            None => true,
+            Some(needed) => may_meet(&scopes, needed.as_slice()),
+        })
     }
 
     #[test]
-    fn an_entry_needs_the_name_that_it_begins_with(rt: HostRuntime) {
-        let key = Some(key_of("source.css".as_bytes()));
-        assert_eq!(rt; needed_key(rt.alloc(), "source.css"), key);
-        assert_eq!(rt;
-            needed_key(rt.alloc(), "source.css.x - (comment | string)"),
-            key
-        );
-        assert_eq!(rt; needed_key(rt.alloc(), "L:source.css meta.x"), key);
-        assert_eq!(rt; needed_key(rt.alloc(), "source"), None);
-        assert_eq!(rt; needed_key(rt.alloc(), "source.css | source.js"), None);
-        assert_eq!(rt; needed_key(rt.alloc(), "-source.css"), None);
+    fn an_entry_needs_keys_of_paths_that_must_hold(rt: HostRuntime) -> Result<(), Fail> {
+        let scopes = "source.css meta.property-value.css string.quoted.css";
+        for text in [
+            "source.css",
+            "source",
+            "L:source.css meta",
+            "source.css.x - (comment | string)",
+            "(source.css meta) - (comment | string)",
+            "(source.js | string)",
+            "-comment.line",
+            "-(comment | string)",
+            "(source.js | - string)",
+            "-(-source.js)",
+            "-(comment | string) source.js",
+        ] {
+            assert!(rt; may_hold(rt.alloc(), text, scopes)?, "{text}");
+        }
+        for text in [
+            "source.js",
+            "nowhere",
+            "css",
+            "L:source.css comment",
+            "source.js - (comment | string)",
+            "(nowhere meta.tag) - (comment | string)",
+            "R:((source.js | comment) - string)",
+            "(source.js - string | comment.line, nowhere)",
+            "((source.js | nowhere) (string | meta))",
+            "-comment (source.js)",
+        ] {
+            assert!(rt; !may_hold(rt.alloc(), text, scopes)?, "{text}");
+        }
+        assert!(rt; !may_hold(rt.alloc(), "source", "")?);
+        assert!(rt; may_hold(rt.alloc(), "-source", "")?);
+        Ok(())
     }
 
     /// Whether the first entry of a selector holds of the first scopes and not of the others.

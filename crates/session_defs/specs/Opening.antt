@@ -131,7 +131,7 @@ settings_for limits (Some g) texts = record {
   limits = limits;
 }
 
--- how many patterns of a grammar can't be read
+-- how many patterns of a grammar and keys of its injections can't be read
 abbrev pub unread_of : Option OpenGrammar → ℕ
 unread_of None = 0
 unread_of (Some g) = g.graph.unread
@@ -140,7 +140,7 @@ unread_of (Some g) = g.graph.unread
 abbrev pub texts_of : Option (List ℕ) → List BracketText
 texts_of file = unwrap_or (option_and_then brackets_of_file file) usual_texts
 
--- a text as it is now, what its answers go by, and how many patterns can't be read
+-- a text as it is now, what its answers go by, and how many patterns and keys of injections can't be read
 pub record Session : Type 0 where
   pub settings : Settings
   pub unread : ℕ

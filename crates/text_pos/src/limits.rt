@@ -5,7 +5,7 @@ pub struct Limits {
     pub nesting: u32,
     /// How many visits one attempt of a pattern has.
     pub budget: u32,
-    /// A line of so many characters has no brackets.
+    /// A line of so many characters or more has no brackets.
     pub long: u32,
     /// How many columns a tab takes at most.
     pub tab: u32,
