@@ -1,9 +1,9 @@
 -- What can stand before a place where nodes match, by cases on the first of them.
-use Rattle.std.proofs.Common.{◌≡◌, ℕ, zero, suc, ◌+◌, ◌-◌, ◌<◌, ◌≤◌, Bool, true, false, List, [], ◌∷◌, ◌++◌, map}
+use Rattle.std.proofs.Common.{◌≡◌, ℕ, zero, suc, ◌+◌, ◌-◌, ◌<◌, ◌≤◌, Bool, true, false, List, [], ◌∷◌, ◌++◌, map, length}
 use Rattle.std.proofs.Common.{Option, Some, None, refl, sym, ap, ◌∙◌, subst, arith}
 use Rattle.std.proofs.lemmas.Bool.{false≢true, lt-ltb}
 use Rattle.std.proofs.lemmas.Bool.Decides.{nat_tests}
-use Rattle.std.specs.Prelude.{replicate, slice_get, nat_lt, nat_le, IfSome, IsSomeAnd, not, ◌==◌, ◌&&◌}
+use Rattle.std.specs.Prelude.{replicate, slice_get, nat_lt, nat_le, IfSome, IsSomeAnd, not, ◌==◌, ◌&&◌, ◌||◌}
 use Rattle.char_sets.specs.Named.{is_word}
 use Rattle.char_sets.specs.Ranges.{in_set, IsSetOf}
 use Rattle.char_sets.specs.declared.char_set.CharRange.{CharRange}
@@ -27,6 +27,7 @@ use Rattle.onig_scan.proofs.Runs.{at_more, ends_else, ends_where, ends_looked, e
 use Rattle.onig_scan.proofs.Runs.{go_on-step, go_on-empty, ends_At, ends_Group, ends_Choice, ends_Ahead}
 use Rattle.onig_scan.proofs.Runs.{ends_Repeat, ends_needed, ends_whole, ends_narrow}
 use Rattle.onig_scan.proofs.BoundLaws.{own_bound, arms_bound}
+use Rattle.onig_scan.proofs.FrontLaws.{if_found, more_front}
 
 -- a smaller set is unfit where a larger one is
 
@@ -52,7 +53,7 @@ IsPast-wider inside lists nodes small large cost wider is =
             scalar = unfit.scalar;
             unfit = unfit_within small.set large.set small.stays large.stays wider.set wider.stays
                 (char_before text at) unfit.scalar unfit.unfit;
-            inside = unfit.inside;
+            asked = unfit.asked;
           })
           (λ to there. there) (is.past text flags rest);
     }
@@ -92,6 +93,15 @@ past_first inside lists node nodes f cost is =
 pub IsPast-cost : (inside : Bool) (lists : NodeLists) (nodes : List PatNode) (f : Front) (visits cost : ℕ)
     → IsPast inside lists nodes f cost → IsPast inside lists nodes (record f { cost = visits }) cost
 IsPast-cost inside lists nodes f visits cost is = record { past = is.past }
+
+-- what is known of one is known of another at so many visits more
+pub past_more : (inside : Bool) (lists : NodeLists) (nodes : List PatNode) (P : Front → Type 0) (visits : ℕ)
+    (front more : Option Front) → ((f : Front) → P f → IsPast inside lists nodes f (f.cost + visits)) → IfSome front P →
+    IfSome more (λ f. IsSomeAnd front (λ g. f ≡ record g { cost = g.cost + visits })) →
+    IfSome more (λ f. IsPast inside lists nodes f f.cost)
+past_more inside lists nodes P visits front more step is how =
+    more_front (λ f cost. IsPast inside lists nodes f cost) visits front more (if_found _ _ front step is)
+    (λ f cost one. IsPast-cost inside lists nodes f (f.cost + visits) cost one) how
 
 -- nodes that hold a list
 
@@ -156,7 +166,7 @@ IsPast-edge lists f =
     record {
       past = λ text flags rest. from_act (Node (At WordEdge)) rest 0 (λ fuel at captures left unfit enough fits.
           let none : holds_at WordEdge (subject_of lists text flags) at ≡ false =
-          both_true (is_char is_word (char_before text at)) (is_char is_word (slice_get text at)) (unfit.inside refl) in
+          both_true (is_char is_word (char_before text at)) (is_char is_word (slice_get text at)) (unfit.asked refl) in
           ends_where (holds_at WordEdge (subject_of lists text flags) at) (go_on (subject_of lists text flags) fuel) rest
           at captures left 0 (λ holds. absurd (false≢true (sym none ∙ holds))));
     }
@@ -186,7 +196,16 @@ IsPast-line inside lists f begins set =
         → may_precede f.set f.stays (char_before text at) ≡ false
         → holds_at LineStart (subject_of lists text flags) at ≡ false
     none text flags zero scalar unfit = absurd (false≢true (sym unfit ∙ begins))
-    none text flags (suc at) scalar unfit = no_feed (slice_get text at) _ scalar unfit
+    none text flags (suc at) scalar unfit =
+        neither (suc at == 0) (is_char (λ n. n == 10) (slice_get text at) && nat_lt (suc at) (length text)) (some at)
+        (no_feed (slice_get text at) (nat_lt (suc at) (length text)) scalar unfit)
+      where
+        some : (n : ℕ) → (suc n == 0) ≡ false
+        some n = grind (arith, nat_tests)
+
+        neither : (a b : Bool) → a ≡ false → b ≡ false → (a || b) ≡ false
+        neither false b is other = other
+        neither true b is other = absurd (false≢true (sym is))
 
 -- lookbehinds of one character
 
@@ -200,7 +219,30 @@ one_hits s set (suc (suc fuel)) at captures zero there enough fits = absurd (ome
 one_hits s set (suc (suc fuel)) at captures (suc zero) there enough fits = absurd (omega arith)
 one_hits s set (suc (suc fuel)) at captures (suc (suc left)) there enough fits =
     go_on-step s (suc fuel) (Node (One set)) [] at captures (suc left)
-    ∙ rw there (go_on-empty s fuel (at + 1) captures left)
+    ∙ rw there (go_on-empty s fuel (at + 1) captures left ∙ ap (Hit (at + 1) captures) (less left))
+  where
+    less : (n : ℕ) → n ≡ suc (suc n) - 2
+    less n = omega arith
+
+-- the arm begins one character before
+one_back : (s : Subject) (go : Going) (arm : Arm) (set : List CharRange) (at : ℕ) (captures : Captures) (left : ℕ)
+    → arm.length ≡ 1 → nodes_of s.lists arm.body ≡ One set ∷ [] →
+    arms_run s go (arm ∷ []) (suc at) captures left
+    ≡ or_else (go (Node (One set) ∷ []) at captures left) (λ l. Miss l)
+one_back s go arm set at captures left one is =
+    rw (one, is) (by_place (nat_le 1 (suc at)) (suc at - 1) (fits at) (less at))
+  where
+    fits : (n : ℕ) → nat_le 1 (suc n) ≡ true
+    fits n = grind (arith, nat_tests)
+
+    less : (n : ℕ) → suc n - 1 ≡ n
+    less n = omega arith
+
+    by_place : (b : Bool) (place : ℕ) → b ≡ true → place ≡ at →
+        or_else (where_holds b go (Node (One set) ∷ []) place captures left) (λ l. Miss l)
+        ≡ or_else (go (Node (One set) ∷ []) at captures left) (λ l. Miss l)
+    by_place true place yes same = rw same refl
+    by_place false place yes same = absurd (false≢true yes)
 
 pub IsPast-unwanted : (inside : Bool) (lists : NodeLists) (arm : Arm) (set : List CharRange) (f : Front)
     → arm.length ≡ 1 → nodes_of lists arm.body ≡ One set ∷ [] → f.stays ≡ true
@@ -236,7 +278,9 @@ IsPast-unwanted inside lists arm set f one is begins all =
         absurd (false≢true (sym unfit ∙ begins))
     by_place text flags rest fuel (suc at) captures left scalar unfit enough fits =
         let s : Subject = subject_of lists text flags in
-        rw (is, one)
+        let Ends : Ran → Type 0 = λ ran. EndsWith Nowhere (looked false ran (go_on s fuel) rest (suc at) captures) left
+        2 in
+        subst Ends (sym (one_back s (go_on s fuel) arm set at captures left one is))
         (seen (go_on s fuel (Node (One set) ∷ []) at captures left) s fuel (at + 1) (suc at) captures left rest
         (one_hits s set fuel at captures left (there (slice_get text at) scalar unfit) enough fits) enough)
 
@@ -257,13 +301,13 @@ IsPast-wanted inside lists arm f one is =
     misses : (s : Subject) (fuel at : ℕ) (captures : Captures) (left : ℕ) →
         is_char (in_set f.set) (slice_get s.text at) ≡ false → 2 ≤ left → left ≤ fuel →
         EndsWith Nowhere (go_on s fuel (Node (One f.set) ∷ []) at captures left) left 1
-    misses s fuel at captures left no enough fits =
+    misses s fuel at captures left without enough fits =
         let At : ℕ → Type 0 = λ p. is_char (in_set f.set) (slice_get s.text p) ≡ false in
         let ends : EndsFrom s At Nowhere (Node (One f.set) ∷ []) 1 =
         from_act (Node (One f.set)) [] 0 (λ fuel at captures left here enough fits.
         ends_where (is_char (in_set f.set) (slice_get s.text at)) (go_on s fuel) [] (at + 1) captures left 0
         (λ holds. absurd (false≢true (sym here ∙ holds)))) in
-        ends.ends fuel at captures left no (omega arith) fits
+        ends.ends fuel at captures left without (omega arith) fits
 
     by_place : (text : List ℕ) (flags : Flags) (fuel at : ℕ) (captures : Captures) (left : ℕ)
         → IfSome (char_before text at) (λ c. c < 1_114_112)
@@ -273,7 +317,8 @@ IsPast-wanted inside lists arm f one is =
     by_place text flags fuel zero captures left scalar unfit enough fits = rw one (misses_now left 2)
     by_place text flags fuel (suc at) captures left scalar unfit enough fits =
         let s : Subject = subject_of lists text flags in
-        rw (is, one)
+        let Ends : Ran → Type 0 = λ ran. EndsWith Nowhere ran left 2 in
+        subst Ends (sym (one_back s (go_on s fuel) arm f.set at captures left one is))
         (at_more _ left 1 2 (omega arith)
         (ends_else (go_on s fuel (Node (One f.set) ∷ []) at captures left) (λ l. Miss l) left 1 0 (omega arith)
         (misses s fuel at captures left (none (slice_get text at) unfit) enough fits)

@@ -8,5 +8,5 @@ use Rattle.onig_scan.specs.Pasts.{IsPastOfAll}
 -- each is that of the whole pattern
 pub record HasFront (tree : Tree) (front past inner : Option Front) : Type 0 where
   pub is : IfSome front (λ f. IsFrontOfAll tree f.set f.cost)
-  pub past : IfSome past (λ f. IsPastOfAll false tree f)
-  pub inner : IfSome inner (λ f. IsPastOfAll true tree f)
+  pub before : IfSome past (λ f. IsPastOfAll false tree f)
+  pub within : IfSome inner (λ f. IsPastOfAll true tree f)

@@ -27,7 +27,7 @@ is_inside text at = is_char is_word (char_before text at) && is_char is_word (sl
 pub record IsUnfit (inside : Bool) (ranges : List CharRange) (begins : Bool) (text : List ℕ) (at : ℕ) : Type 0 where
   pub scalar : IfSome (char_before text at) (λ c. c < 1_114_112)
   pub unfit : may_precede ranges begins (char_before text at) ≡ false
-  pub inside : inside ≡ true → is_inside text at ≡ true
+  pub asked : inside ≡ true → is_inside text at ≡ true
 
 -- nodes miss at such places, at so many visits
 pub record IsPast (inside : Bool) (lists : NodeLists) (nodes : List PatNode) (f : Front) (cost : ℕ) : Type 0 where

@@ -30,13 +30,13 @@ past_row text at = CLASSES + class_of (char_before text at) + cond (is_inside te
 abbrev pub HasRow : List ℕ → ℕ → ℕ → Type 0
 HasRow text at row = (class_of (slice_get text at) ≡ row) ⊎ (past_row text at ≡ row)
 
+abbrev pub IsScalarAt : List ℕ → ℕ → Type 0
+IsScalarAt text at = IfSome (slice_get text at) (λ c. c < 1_114_112)
+
 -- the characters of a place and before it are in Unicode
 pub record AreScalars (text : List ℕ) (at : ℕ) : Type 0 where
   pub here : IsScalarAt text at
   pub past : IfSome (char_before text at) (λ c. c < 1_114_112)
-
-abbrev pub IsScalarAt : List ℕ → ℕ → Type 0
-IsScalarAt text at = IfSome (slice_get text at) (λ c. c < 1_114_112)
 
 -- no character of this kind is in the set
 pub record HasNone (ranges : List CharRange) (class : ℕ) : Type 0 where

@@ -1,4 +1,4 @@
-ghost use Rattle.std.specs.Prelude.{◌≡◌, ◌+◌, ◌-◌, ◌*◌, ◌/◌, ◌<◌, ◌≤◌, ◌^◌, ◌×◌, false, length, slice_get, IfOk, IfSome};
+ghost use Rattle.std.specs.Prelude.{◌≡◌, ◌+◌, ◌-◌, ◌*◌, ◌/◌, ◌<◌, ◌≤◌, ◌^◌, false, length, slice_get, IfOk, IfSome};
 ghost use Rattle.char_sets.specs.Named.{is_word};
 ghost use Rattle.pattern_defs.specs.Attempt.{char_before, is_char};
 ghost use Rattle.onig_scan.specs.Rows.{class_of as kind_of, past_row, AreScalars, IsSpared, IsWord, AreRows};
