@@ -1,5 +1,5 @@
 -- What can stand before a place where nodes match, by cases on the first of them.
-use Rattle.std.proofs.Common.{◌≡◌, ℕ, zero, suc, ◌+◌, ◌-◌, ◌<◌, ◌≤◌, Bool, true, false, List, [], ◌∷◌, ◌++◌, map, length}
+use Rattle.std.proofs.Common.{◌≡◌, ℕ, zero, suc, ◌+◌, ◌-◌, ◌<◌, ◌≤◌, Bool, true, false, List, [], ◌∷◌, ◌++◌, map, length, get_or}
 use Rattle.std.proofs.Common.{Option, Some, None, refl, sym, ap, ◌∙◌, subst, arith}
 use Rattle.std.proofs.lemmas.Bool.{false≢true, lt-ltb}
 use Rattle.std.proofs.lemmas.Bool.Decides.{nat_tests}
@@ -241,8 +241,14 @@ one_back s go arm set at captures left one is =
     by_place : (b : Bool) (place : ℕ) → b ≡ true → place ≡ at →
         or_else (where_holds b go (Node (One set) ∷ []) place captures left) (λ l. Miss l)
         ≡ or_else (go (Node (One set) ∷ []) at captures left) (λ l. Miss l)
-    by_place true place yes same = rw same refl
-    by_place false place yes same = absurd (false≢true yes)
+    by_place true place back same = rw same refl
+    by_place false place back same = absurd (false≢true back)
+
+-- a list of one arm
+pub single_arm : (arms : List Arm) (d : Arm) → 1 ≤ length arms → length arms < 2 → arms ≡ get_or arms 0 d ∷ []
+single_arm [] d some few = absurd (omega (arith, some))
+single_arm (arm ∷ []) d some few = refl
+single_arm (arm ∷ other ∷ arms) d some few = absurd (omega (arith, few))
 
 pub IsPast-unwanted : (inside : Bool) (lists : NodeLists) (arm : Arm) (set : List CharRange) (f : Front)
     → arm.length ≡ 1 → nodes_of lists arm.body ≡ One set ∷ [] → f.stays ≡ true

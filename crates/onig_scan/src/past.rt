@@ -133,11 +133,7 @@ fn past_of_ids(
 }
 
 /// The same of a place that holds or doesn't.
-fn past_of_anchor(
-    alloc: Global,
-    anchor: Anchor,
-    inside: bool,
-) -> Result<Option<Front>, AllocError>
+fn past_of_anchor(alloc: Global, anchor: Anchor, inside: bool) -> Result<Option<Front>, AllocError>
     ensures { (lists : NodeLists) → IfOk result (λ o. IfSome o (λ f. IsPast inside lists (At anchor ∷ []) f f.cost)) }
 {
     match anchor {

@@ -9,8 +9,8 @@ pub past_of-returns : goal.past_of-returns
 past_of-returns t c =
     let split : c.args.nodes.now ≡ c.in-Some.first.now ∷ c.in-Some.rest.now = (c.in-Some.ensures.cases).0 in
     rw split
-    (past_more _ _ _ _ c.in-Some-visits_to_pass.visits c.in_ok-past.past c.with_visits.result
-    (λ f is. c.in-Some-visits_to_pass.ensures.passes _ _ f f.cost is) c.in_ok-past.ensures c.with_visits.ensures)
+    (past_more _ _ _ _ c.in-Some-visits_to_pass.visits c.in_ok-past-2.past c.with_visits.result
+    (λ f is. c.in-Some-visits_to_pass.ensures.passes _ _ f f.cost is) c.in_ok-past-2.ensures c.with_visits.ensures)
 
 pub past_of_ids-list-requires : goal.past_of_ids-list-requires
 past_of_ids-list-requires t c = id_below _ _ _ _ c.requires c.loop-id-test.true
@@ -29,8 +29,8 @@ past_of_node-returns-in-At t c = rw c.in-At.is (c.past_of_anchor.ensures _)
 pub past_of_node-returns-in_ok-past-in-Group : goal.past_of_node-returns-in_ok-past-in-Group
 past_of_node-returns-in_ok-past-in-Group t c =
     rw c.in-Group.is
-    (past_more _ _ _ _ 1 c.in_ok-past-in-Group.past c.with_visits-in-Group.result (λ f is. IsPast-Group _ _ _ _ f f.cost is)
-    (rw c.list-in-Group.ensures.nodes at c.in_ok-past-in-Group.ensures) c.with_visits-in-Group.ensures)
+    (past_more _ _ _ _ 1 c.in_ok-past-in-Group.past c.with_visits.result (λ f is. IsPast-Group _ _ _ _ f f.cost is)
+    (rw c.list.ensures.nodes at c.in_ok-past-in-Group.ensures) c.with_visits.ensures)
 
 pub past_of_node-returns-in_ok-past-in-Atomic : goal.past_of_node-returns-in_ok-past-in-Atomic
 past_of_node-returns-in_ok-past-in-Atomic t c =
@@ -42,7 +42,7 @@ pub past_of_node-returns-in_ok-past-in-Choice : goal.past_of_node-returns-in_ok-
 past_of_node-returns-in_ok-past-in-Choice t c =
     rw c.in-Choice.is
     (past_more _ _ _ _ 1 c.in_ok-past-in-Choice.past c.with_visits-in-Choice.result (λ f is. IsPast-Choice _ _ _ f f.cost is)
-    (rw c.as_slice-in-Choice.ensures at c.in_ok-past-in-Choice.ensures) c.with_visits-in-Choice.ensures)
+    (rw c.as_slice.ensures at c.in_ok-past-in-Choice.ensures) c.with_visits-in-Choice.ensures)
 
 pub past_of_node-returns-in_ok-past-in-Repeat : goal.past_of_node-returns-in_ok-past-in-Repeat
 past_of_node-returns-in_ok-past-in-Repeat t c =

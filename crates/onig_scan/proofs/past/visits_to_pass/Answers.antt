@@ -8,7 +8,7 @@ returns-in-At c = rw c.in-At.is (IsPassing-At _ _)
 pub returns-in_ok-seen-in-Ahead : goal.returns-in_ok-seen-in-Ahead
 returns-in_ok-seen-in-Ahead c =
     let is = rw c.list.ensures.nodes at c.in_ok-seen-in-Ahead.ensures in
-    rw c.in-Ahead.is (of_sum _ _ _ c.checked_add-in-Ahead.result c.checked_add-in-Ahead.ensures
+    rw c.in-Ahead.is (of_sum _ _ _ c.checked_add.result c.checked_add.ensures
     (IsPassing-Ahead _ _ _ _ is))
 
 pub returns-in_ok-seen-in-Behind : goal.returns-in_ok-seen-in-Behind
