@@ -12,12 +12,12 @@ use Rattle.pattern_defs.specs.Attempt.{kept_whole, repeat_ways, is_greatest}
 use Rattle.onig_scan.specs.Runs.{left_of, EndsWith, EndsFrom, AllEnd, Nowhere}
 
 -- a look takes one visit
-go_on-empty : (s : Subject) (fuel at : ℕ) (captures : Captures) (left : ℕ) →
+pub go_on-empty : (s : Subject) (fuel at : ℕ) (captures : Captures) (left : ℕ) →
     go_on s (suc fuel) [] at captures (suc left) ≡ Hit at captures left
 unfolding go_on
 go_on-empty s fuel at captures left = refl
 
-go_on-step : (s : Subject) (fuel : ℕ) (first : Todo) (rest : List Todo) (at : ℕ) (captures : Captures) (left : ℕ) →
+pub go_on-step : (s : Subject) (fuel : ℕ) (first : Todo) (rest : List Todo) (at : ℕ) (captures : Captures) (left : ℕ) →
     go_on s (suc fuel) (first ∷ rest) at captures (suc left) ≡ act s (go_on s fuel) first rest at captures left
 unfolding go_on
 go_on-step s fuel first rest at captures left = refl

@@ -1,6 +1,6 @@
 use Rattle.std.proofs.Common.{◌*◌}
 use Rattle.onig_scan.specs.Rows.{GoesOn}
-use Rattle.onig_scan.proofs.scanner.find_in_row.Given as goal
+use Rattle.onig_scan.proofs.scanner.find_in_rows.Given as goal
 
 -- the patterns so far are passed
 abbrev pub invariant-loop-k : goal.invariant-loop-k
