@@ -25,22 +25,15 @@ pub(crate) struct Stage {
 
 impl Model for Stage {
     ghost use Rattle.std.specs.Prelude.{List};
-    ghost use Rattle.bracket_marks.specs.MarkedLine.{MarkedLine};
-    ghost use Rattle.std.specs.Prelude.{◌^◌, ◌<◌, ◌≤◌, length};
-    ghost use Rattle.bracket_marks.specs.MarkedLine.{marks_in};
     ghost use Rattle.bracket_ast.specs.Shapes.{or_nothing};
-    ghost use Rattle.agreement_check.specs.Checks.{AreSound};
-    ghost use Rattle.reuse_defs.specs.Whole.{StandsFor};
+    ghost use Rattle.bracket_marks.specs.MarkedLine.{MarkedLine};
+    ghost use Rattle.reuse_parser_tests.specs.Stages.{IsStage};
 
     ghost Value = { List MarkedLine };
 
     ghost view = { λ s. s.lines };
 
-    ghost invariant = { λ s. (s.limit ≤ 300)
-        × AreSound s.lines
-        × (0 < length s.lines)
-        × (length (marks_in s.lines) < 2 ^ 32)
-        × StandsFor s.limit (or_nothing s.tree.root) s.lines };
+    ghost invariant = { λ s. IsStage s.limit s.lines (or_nothing s.tree.root) };
 }
 
 /// The tree after changes, how many marks were read for it, and which place was reached.
