@@ -1,6 +1,8 @@
 -- How many visits nodes take at most, by cases on the first of them.
 use Rattle.std.proofs.Common.{◌≡◌, ℕ, zero, suc, ◌+◌, ◌-◌, ◌<◌, ◌≤◌, Bool, true, false, List, [], ◌∷◌, ◌++◌, length}
 use Rattle.std.proofs.Common.{map, get_or, Option, Some, None, sym, subst, arith}
+use Rattle.std.proofs.lemmas.Bool.{false≢true}
+use Rattle.std.proofs.lemmas.Bool.Decides.{nat_tests}
 use Rattle.std.specs.Prelude.{nat_lt, nat_le, slice_get, IfSome, SomeIff, ◌==◌, ◌&&◌}
 use Rattle.char_sets.specs.Ranges.{in_set}
 use Rattle.char_sets.specs.declared.char_set.CharRange.{CharRange}
@@ -16,10 +18,10 @@ use Rattle.pattern_defs.specs.Patterns.{NodeLists, AllIds, AllArms, nodes_of, Ar
 use Rattle.pattern_defs.specs.Attempt.{Subject, Todo, Node, Close, Again, Captures}
 use Rattle.pattern_defs.specs.Attempt.{go_on, before, arms_run, backs, capture_of, repeat_ways}
 use Rattle.pattern_defs.specs.Attempt.{is_greatest, is_char, stands_again, where_holds}
-use Rattle.onig_scan.specs.Runs.{EndsWith, Anywhere}
-use Rattle.onig_scan.specs.Bounds.{subject_of, IsBoundOf, IsBound, AreBounds, AreArmBounds}
+use Rattle.onig_scan.specs.Runs.{EndsWith, AllEnd, Anywhere}
+use Rattle.onig_scan.specs.Bounds.{subject_of, IsBoundOf, IsBound, IsBoundOfTimes, AreBounds, AreArmBounds}
 use Rattle.onig_scan.proofs.Runs.{misses_now, at_more, ends_else, ends_where, ends_looked, from_act, ends_empty}
-use Rattle.onig_scan.proofs.Runs.{AllEnd, ends_tries, ends_At, ends_Close, ends_Group, ends_Choice, ends_Ahead}
+use Rattle.onig_scan.proofs.Runs.{ends_tries, ends_At, ends_Close, ends_Group, ends_Choice, ends_Ahead}
 use Rattle.onig_scan.proofs.Runs.{ends_Atomic, ends_Repeat}
 
 everywhere : (at : ℕ) → Anywhere at → Anywhere at
@@ -162,59 +164,77 @@ IsBound-Behind lists arms wanted after cost are =
           (λ seen l enough' below. it.ends fuel at seen l tt enough' (omega arith)));
     }
 
--- repeats that are done at most once
+-- repeats of a greatest number
 
-pub IsBound-never : (lists : NodeLists) (body : ListId) (least : ℕ) (greedy : Bool) (after : ℕ)
-    → IsLeastWithin least (Some 0) →
-    IsBound lists (Repeat body least (Some 0) greedy ∷ []) after (after + 1)
-IsBound-never lists body zero greedy after few =
+pub IsBoundOfTimes-none : (lists : NodeLists) (body : ListId) (after : ℕ) → IsBoundOfTimes lists body 0 after after
+IsBoundOfTimes-none lists body after =
     record {
-      bound = λ text flags rest it. ends_Repeat body 0 (Some 0) greedy rest after
-          (λ at here. (after, 0, omega arith, it, tt));
+      ways = λ text flags rest it least most count at stuck greedy few all.
+          let above : nat_lt count least ≡ false = le-ltb-false count least (omega (arith, few, all)) in
+          let done : is_greatest (Some most) count ≡ true = same most count (omega (arith, all)) in
+          by_case (subject_of lists text flags) rest it
+          (before lists body (Again body least (Some most) greedy (count + 1) at ∷ rest)) stuck (nat_lt count least)
+          (is_greatest (Some most) count) greedy above done;
     }
-IsBound-never lists body (suc least) greedy after few = absurd (omega (arith, few))
-
--- at its end an iteration is the last
-again_bound : (lists : NodeLists) (body : ListId) (least : ℕ) (greedy : Bool) (begun after : ℕ) (text : List ℕ)
-    (flags : Flags) (rest : List Todo) →
-    least ≤ 1 → IsBoundOf (subject_of lists text flags) rest after →
-    IsBoundOf (subject_of lists text flags) (Again body least (Some 1) greedy 1 begun ∷ rest) (after + 1)
-again_bound lists body least greedy begun after text flags rest few it =
-    from_act (Again body least (Some 1) greedy 1 begun) rest after (λ fuel at captures left here enough fits.
-    ends_tries (subject_of lists text flags) Anywhere Anywhere _ after fuel at captures left
-    (by_stuck (before lists body (Again body least (Some 1) greedy 2 at ∷ rest)) (at == begun) least few) tt
-    enough fits)
   where
-    by_stuck : (more : List Todo) (stuck : Bool) (l : ℕ) → l ≤ 1 →
-        AllEnd (subject_of lists text flags) Anywhere Anywhere
-        (repeat_ways (true && stuck) (nat_lt 1 l) (is_greatest (Some 1) 1) greedy more rest) after
-    by_stuck more true l few = (after, 0, omega arith, it, tt)
-    by_stuck more false zero few = (after, 0, omega arith, it, tt)
-    by_stuck more false (suc zero) few = (after, 0, omega arith, it, tt)
-    by_stuck more false (suc (suc l)) few = absurd (omega arith)
+    le-ltb-false : (n m : ℕ) → m ≤ n → nat_lt n m ≡ false
+    le-ltb-false n m h = grind (arith, nat_tests)
 
-pub IsBound-once : (lists : NodeLists) (body : ListId) (least : ℕ) (greedy : Bool) (after again cost : ℕ)
-    → IsLeastWithin least (Some 1) →
-    again ≡ after + 1 → IsBound lists (nodes_of lists body) again cost
-    → IsBound lists (Repeat body least (Some 1) greedy ∷ []) after (cost + after + 1)
-IsBound-once lists body least greedy after again cost few one is =
+    same : (n m : ℕ) → m ≡ n → (n == m) ≡ true
+    same n m e = grind (arith, nat_tests)
+
+    by_case : (s : Subject) (rest : List Todo) → IsBoundOf s rest after → (more : List Todo)
+        → (stuck below greatest greedy : Bool) → below ≡ false → greatest ≡ true →
+        AllEnd s Anywhere Anywhere (repeat_ways stuck below greatest greedy more rest) after
+    by_case s rest it more true below greatest greedy above done = (after, 0, omega arith, it, tt)
+    by_case s rest it more false true greatest greedy above done = absurd (false≢true (sym above))
+    by_case s rest it more false false true greedy above done = (after, 0, omega arith, it, tt)
+    by_case s rest it more false false false greedy above done = absurd (false≢true done)
+
+-- an iteration more
+pub IsBoundOfTimes-more : (lists : NodeLists) (body : ListId) (times after others again one : ℕ) →
+    IsBoundOfTimes lists body times after others → again ≡ others + 1 → IsBound lists (nodes_of lists body) again one
+    → IsBoundOfTimes lists body (times + 1) after (one + after)
+IsBoundOfTimes-more lists body times after others again one fewer next is =
     record {
-      bound = λ text flags rest it. ends_Repeat body least (Some 1) greedy rest (cost + after) (λ at here.
+      ways = λ text flags rest it least most count at stuck greedy few all.
           let Bound : ℕ → Type 0 = λ c. IsBoundOf (subject_of lists text flags)
-          (Again body least (Some 1) greedy 1 at ∷ rest) c in
-          by_kind text flags rest it (before lists body (Again body least (Some 1) greedy 1 at ∷ rest))
-          (is.bound text flags (Again body least (Some 1) greedy 1 at ∷ rest)
-          (subst Bound (sym one) (again_bound lists body least greedy at after text flags rest few it)))
-          (nat_lt 0 least) greedy);
+          (Again body least (Some most) greedy (count + 1) at ∷ rest) c in
+          by_case (subject_of lists text flags) rest it
+          (before lists body (Again body least (Some most) greedy (count + 1) at ∷ rest))
+          (is.bound text flags (Again body least (Some most) greedy (count + 1) at ∷ rest)
+          (subst Bound (sym next) (again_bound text flags rest it least most count at greedy few (omega (arith, all)))))
+          stuck (nat_lt count least) (is_greatest (Some most) count) greedy;
     }
   where
-    by_kind : (text : List ℕ) (flags : Flags) (rest : List Todo) → IsBoundOf (subject_of lists text flags) rest after →
-        (more : List Todo) → IsBoundOf (subject_of lists text flags) more cost → (below kind : Bool) →
-        AllEnd (subject_of lists text flags) Anywhere Anywhere (repeat_ways false below false kind more rest)
-        (cost + after)
-    by_kind text flags rest it more is true kind = (cost, 0, omega arith, is, tt)
-    by_kind text flags rest it more is false true = (cost, after, omega arith, is, (after, 0, omega arith, it, tt))
-    by_kind text flags rest it more is false false = (after, cost, omega arith, it, (cost, 0, omega arith, is, tt))
+    again_bound : (text : List ℕ) (flags : Flags) (rest : List Todo) → IsBoundOf (subject_of lists text flags) rest after
+        → (least most count begun : ℕ) (greedy : Bool) → least ≤ most → count + 1 + times ≡ most →
+        IsBoundOf (subject_of lists text flags) (Again body least (Some most) greedy (count + 1) begun ∷ rest)
+        (others + 1)
+    again_bound text flags rest it least most count begun greedy few all =
+        from_act (Again body least (Some most) greedy (count + 1) begun) rest others
+        (λ fuel at captures left here enough fits.
+        ends_tries (subject_of lists text flags) Anywhere Anywhere _ others fuel at captures left
+        (fewer.ways text flags rest it least most (count + 1) at (nat_lt 0 (count + 1) && (at == begun)) greedy few all)
+        tt enough fits)
+
+    by_case : (s : Subject) (rest : List Todo) → IsBoundOf s rest after → (more : List Todo) → IsBoundOf s more one
+        → (stuck below greatest greedy : Bool) →
+        AllEnd s Anywhere Anywhere (repeat_ways stuck below greatest greedy more rest) (one + after)
+    by_case s rest it more is true below greatest greedy = (after, 0, omega arith, it, tt)
+    by_case s rest it more is false true greatest greedy = (one, 0, omega arith, is, tt)
+    by_case s rest it more is false false true greedy = (after, 0, omega arith, it, tt)
+    by_case s rest it more is false false false true = (one, after, omega arith, is, (after, 0, omega arith, it, tt))
+    by_case s rest it more is false false false false = (after, one, omega arith, it, (one, 0, omega arith, is, tt))
+
+pub IsBound-times : (lists : NodeLists) (body : ListId) (least most : ℕ) (greedy : Bool) (after cost : ℕ)
+    → IsLeastWithin least (Some most) →
+    IsBoundOfTimes lists body most after cost → IsBound lists (Repeat body least (Some most) greedy ∷ []) after (cost + 1)
+IsBound-times lists body least most greedy after cost few is =
+    record {
+      bound = λ text flags rest it. ends_Repeat body least (Some most) greedy rest cost (λ at here.
+          is.ways text flags rest it least most 0 at false greedy few (omega arith));
+    }
 
 -- a sum, where it fits
 pub of_sum : (P : ℕ → Type 0) (Q : Type 0) (v : ℕ) (o : Option ℕ) → SomeIff o Q v → P v → IfSome o P

@@ -15,11 +15,11 @@ use Rattle.pattern_defs.specs.Patterns.{NodeLists, Tree, nodes_of}
 use Rattle.pattern_defs.specs.Attempt.{Subject, Todo, Node, Close, Again, Captures, Ran, Hit, Miss, Spent, is_char}
 use Rattle.pattern_defs.specs.Attempt.{go_on, before, repeat_ways, is_greatest, with_whole}
 use Rattle.onig_scan.specs.declared.front.Front.{Front}
-use Rattle.onig_scan.specs.Runs.{EndsWith, EndsFrom, Nowhere}
+use Rattle.onig_scan.specs.Runs.{AllEnd, EndsWith, EndsFrom, Nowhere}
 use Rattle.onig_scan.specs.Bounds.{subject_of, IsBound, AreArmBounds}
 use Rattle.onig_scan.specs.Fronts.{IsWithout, IsBare, Stays, IsFrontOf, IsBehind, IsFront, AreFronts, IsWithin}
 use Rattle.onig_scan.specs.Fronts.{IsWider, IsFrontOfOwn, IsFrontOfRepeat, IsFrontOfAll}
-use Rattle.onig_scan.proofs.Runs.{at_more, ends_where, ends_looked, from_act, ends_empty, AllEnd, ends_At}
+use Rattle.onig_scan.proofs.Runs.{at_more, ends_where, ends_looked, from_act, ends_empty, ends_At}
 use Rattle.onig_scan.proofs.Runs.{ends_Close, ends_Group, ends_Choice, ends_Ahead, ends_needed, ends_whole}
 use Rattle.onig_scan.proofs.Runs.{ends_Atomic, ends_Repeat, ends_stuck, ends_narrow}
 use Rattle.onig_scan.proofs.BoundLaws.{own_bound, arms_bound}
@@ -250,6 +250,37 @@ IsFrontOfOwn-some lists body after f stays own =
       };
     }
 
+-- a lookahead, wanted or not
+pub IsFrontOfBoth : (lists : NodeLists) (body : ListId) (wanted : Bool) (inner a f : Front) → IsWithin inner.set f.set
+    → IsWithin a.set f.set →
+    f.stays ≡ a.stays → f.cost ≡ inner.cost + a.cost →
+    IsFront lists (nodes_of lists body) (Some (record { set = []; cost = 1; stays = true })) inner inner.cost
+    → IsFront lists (Ahead body wanted ∷ []) (Some a) f (f.cost + 1)
+IsFrontOfBoth lists body wanted inner a f inside behind stays cost own =
+    record {
+      front = λ text flags place rest it. at_cost _ _ _ _
+          (ends_Ahead body wanted rest inner.cost a.cost (first text flags place) (others text flags place rest it));
+    }
+  where
+    first : (text : List ℕ) (flags : Flags) (place : ℕ) →
+        EndsFrom (subject_of lists text flags) (IsBare f.set text place) (Stays inner.stays place)
+        (before lists body []) inner.cost
+    first text flags place =
+        ends_narrow (before lists body []) inner.cost
+        (λ at bare. bare_within inner.set f.set text place at inside bare) (λ to there. there)
+        (own_front lists body inner text flags place own)
+
+    others : (text : List ℕ) (flags : Flags) (place : ℕ) (rest : List Todo)
+        → IsFrontOf (subject_of lists text flags) place rest a a.cost →
+        EndsFrom (subject_of lists text flags) (IsBare f.set text place) (Stays f.stays place) rest a.cost
+    others text flags place rest it =
+        ends_narrow rest a.cost (λ at bare. bare_within a.set f.set text place at behind bare)
+        (λ to there. let Staying : Bool → Type 0 = λ b. Stays b place to in subst Staying (sym stays) there) it
+
+    at_cost : (s : Subject) (From P : ℕ → Type 0) (todo : List Todo)
+        → EndsFrom s From P todo (inner.cost + a.cost + 1) → EndsFrom s From P todo (f.cost + 1)
+    at_cost s From P todo is = let Ends : ℕ → Type 0 = λ n. EndsFrom s From P todo (n + 1) in subst Ends (sym cost) is
+
 -- one that may take nothing
 pub IsFrontOfOwn-none : (lists : NodeLists) (body : ListId) (inner a f : Front) → IsWithin inner.set f.set
     → IsWithin a.set f.set →
@@ -263,10 +294,7 @@ IsFrontOfOwn-none lists body inner a f inside behind stays cost own =
             (ends_Atomic body rest inner.cost a.cost (λ at to bare there. record { here = there; bare = bare.bare })
             (first text flags place) (others text flags place rest it));
       };
-      ahead = record {
-        front = λ text flags place rest it. at_cost _ _ _ _
-            (ends_Ahead body true rest inner.cost a.cost (first text flags place) (others text flags place rest it));
-      };
+      ahead = IsFrontOfBoth lists body true inner a f inside behind stays cost own;
     }
   where
     first : (text : List ℕ) (flags : Flags) (place : ℕ) →

@@ -2,7 +2,7 @@ pub mod BoundLaws
 pub mod Budgets
 pub mod FrontLaws
 pub mod Idle
-pub mod LineLaws
+pub mod PastLaws
 pub mod Places
 pub mod RowLaws
 pub mod Runs

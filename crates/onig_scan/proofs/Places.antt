@@ -15,7 +15,7 @@ use Rattle.pattern_defs.specs.Patterns.{Tree}
 use Rattle.pattern_defs.specs.Attempt.{Ran, Hit, Miss, Spent, attempt, outcome_of, last_hit_captures, capture_of}
 use Rattle.pattern_defs.specs.FirstMatch.{pairs_at, is_no_miss, first_of, answer_by}
 use Rattle.onig_match.specs.Works.{Worked, IsPart}
-use Rattle.onig_scan.specs.Rows.{row_of, IsScalarAt, IsSpared, IsWord, first_from, IsDecided, GoesOn, IsPassed}
+use Rattle.onig_scan.specs.Rows.{IsMissed, IsWordHere, first_from, IsDecided, GoesOn, IsPassed}
 
 -- the pattern of a number, and those behind it
 at_tree : (trees : List Tree) (index at : ℕ) (text : List ℕ) (flags : Flags) (budget : ℕ) (tree : Tree)
@@ -43,19 +43,18 @@ decides_at trees index at text flags budget tree low is told =
     at_tree trees index at text flags budget tree low is ∙ rw told refl
 
 -- a pattern that is spared, or none
-spared_on : (trees : List Tree) (index at : ℕ) (text : List ℕ) (flags : Flags) (budget row cost : ℕ)
-    → IsScalarAt text at → row_of text at ≡ row → cost ≤ budget →
-    IfSome (slice_get trees index) (λ tree. IsSpared tree row cost)
+spared_on : (trees : List Tree) (index at : ℕ) (text : List ℕ) (flags : Flags) (budget cost : ℕ) → cost ≤ budget →
+    IfSome (slice_get trees index) (λ tree. IsMissed tree text at cost)
     → first_from trees (index + 1) at text flags budget ≡ first_from trees index at text flags budget
-spared_on trees index at text flags budget row cost scalar here enough spared =
+spared_on trees index at text flags budget cost enough spared =
     elim (slice_get_cases trees index).1 [ inl c ↦ there c.0 c.1 c.2 c.3 | inr c ↦ past c.0 ]
   where
     there : (tree : Tree) → index < length trees → slice_get trees index ≡ Some tree → get_or trees index tree ≡ tree →
         first_from trees (index + 1) at text flags budget ≡ first_from trees index at text flags budget
     there tree low is same =
-        let one : IsSpared tree row cost = rw is at spared in
+        let one : IsMissed tree text at cost = rw is at spared in
         let missed : (rest : ℕ) × (attempt tree text at flags budget ≡ Miss rest) =
-        one.misses text at flags budget scalar here enough in
+        one.misses flags budget enough in
         misses_on trees index at text flags budget tree low same (ap is_no_miss missed.1)
 
     past : length trees ≤ index → first_from trees (index + 1) at text flags budget
@@ -66,24 +65,23 @@ spared_on trees index at text flags budget row cost scalar here enough spared =
         rw (none, none') refl
 
 -- several of them
-pub spared_run : (trees : List Tree) (first at : ℕ) (text : List ℕ) (flags : Flags) (budget row cost count : ℕ)
-    → IsScalarAt text at → row_of text at ≡ row → cost ≤ budget →
-    ((j : ℕ) → j < count → IfSome (slice_get trees (first + j)) (λ tree. IsSpared tree row cost)) →
+pub spared_run : (trees : List Tree) (first at : ℕ) (text : List ℕ) (flags : Flags) (budget cost count : ℕ)
+    → cost ≤ budget →
+    ((j : ℕ) → j < count → IfSome (slice_get trees (first + j)) (λ tree. IsMissed tree text at cost)) →
     first_from trees (first + count) at text flags budget ≡ first_from trees first at text flags budget
-spared_run trees first at text flags budget row cost zero scalar here enough spared = let e : first + 0 ≡ first =
+spared_run trees first at text flags budget cost zero enough spared = let e : first + 0 ≡ first =
     omega arith in rw e refl
-spared_run trees first at text flags budget row cost (suc count) scalar here enough spared =
+spared_run trees first at text flags budget cost (suc count) enough spared =
     let e : first + suc count ≡ (first + count) + 1 = omega arith in
-    rw e (spared_on trees (first + count) at text flags budget row cost scalar here enough (spared count (omega arith))
-    ∙ spared_run trees first at text flags budget row cost count scalar here enough (λ j low. spared j (omega arith)))
+    rw e (spared_on trees (first + count) at text flags budget cost enough (spared count (omega arith))
+    ∙ spared_run trees first at text flags budget cost count enough (λ j low. spared j (omega arith)))
 
 -- by the bits of a word
 pub spared_bits : (trees : List Tree) (first from count at : ℕ) (text : List ℕ) (flags : Flags)
-    (budget row cost word : ℕ) → IsScalarAt text at → row_of text at ≡ row → cost ≤ budget →
-    IsWord trees row first cost word → from + count ≤ 64 → ((j : ℕ) → j < count → bit_at word (from + j) ≡ 0) →
+    (budget cost word : ℕ) → cost ≤ budget → IsWordHere trees text at first cost word → from + count ≤ 64 → ((j : ℕ) → j < count → bit_at word (from + j) ≡ 0) →
     first_from trees (first + from + count) at text flags budget ≡ first_from trees (first + from) at text flags budget
-spared_bits trees first from count at text flags budget row cost word scalar here enough is within zeros =
-    spared_run trees (first + from) at text flags budget row cost count scalar here enough (λ j low.
+spared_bits trees first from count at text flags budget cost word enough is within zeros =
+    spared_run trees (first + from) at text flags budget cost count enough (λ j low.
     let e : first + from + j ≡ first + (from + j) = omega arith in
     rw e (is.spares (from + j) (omega arith) (zeros j low)))
 
@@ -220,15 +218,15 @@ decided_behind trees first index at text flags old mid new result on is =
 -- patterns that are spared are passed
 pub skip_on : (trees : List Tree) (first index count at : ℕ) (text : List ℕ) (flags : Flags) (old now : Worked)
     (cost word : ℕ) →
-    IsScalarAt text at → cost ≤ old.budget → IsWord trees (row_of text at) first cost word → first ≤ index
+    cost ≤ old.budget → IsWordHere trees text at first cost word → first ≤ index
     → (index - first) + count ≤ 64 →
     ((j : ℕ) → j < count → bit_at word ((index - first) + j) ≡ 0) → GoesOn trees first index at text flags old now →
     GoesOn trees first (index + count) at text flags old now
-skip_on trees first index count at text flags old now cost word scalar enough is low within zeros on =
+skip_on trees first index count at text flags old now cost word enough is low within zeros on =
     let e : first + (index - first) ≡ index = omega arith in
     let run : first_from trees (first + (index - first) + count) at text flags old.budget
     ≡ first_from trees (first + (index - first)) at text flags old.budget =
-    spared_bits trees first (index - first) count at text flags old.budget (row_of text at) cost word scalar refl
+    spared_bits trees first (index - first) count at text flags old.budget cost word
     enough is within zeros in
     record { missed = (rw e at run) ∙ on.missed; same = on.same }
 

@@ -9,15 +9,15 @@ use Rattle.pattern_defs.specs.declared.nodes.PatNode.TheVariants.{Atomic}
 use Rattle.pattern_defs.specs.Attempt.{Subject, Todo, Node, Close, Again, Captures, Ran, Hit, Miss, Spent, Going, act}
 use Rattle.pattern_defs.specs.Attempt.{go_on, tries, or_else, where_holds, before, holds_at, looked}
 use Rattle.pattern_defs.specs.Attempt.{kept_whole, repeat_ways, is_greatest}
-use Rattle.onig_scan.specs.Runs.{left_of, EndsWith, EndsFrom, Nowhere}
+use Rattle.onig_scan.specs.Runs.{left_of, EndsWith, EndsFrom, AllEnd, Nowhere}
 
 -- a look takes one visit
-go_on-empty : (s : Subject) (fuel at : ℕ) (captures : Captures) (left : ℕ) →
+pub go_on-empty : (s : Subject) (fuel at : ℕ) (captures : Captures) (left : ℕ) →
     go_on s (suc fuel) [] at captures (suc left) ≡ Hit at captures left
 unfolding go_on
 go_on-empty s fuel at captures left = refl
 
-go_on-step : (s : Subject) (fuel : ℕ) (first : Todo) (rest : List Todo) (at : ℕ) (captures : Captures) (left : ℕ) →
+pub go_on-step : (s : Subject) (fuel : ℕ) (first : Todo) (rest : List Todo) (at : ℕ) (captures : Captures) (left : ℕ) →
     go_on s (suc fuel) (first ∷ rest) at captures (suc left) ≡ act s (go_on s fuel) first rest at captures left
 unfolding go_on
 go_on-step s fuel first rest at captures left = refl
@@ -97,12 +97,6 @@ pub ends_unkept : {P : ℕ → Type 0} (ran : Ran) (go : Going) (rest : List Tod
 ends_unkept (Hit to seen l) go rest left cost e = absurd e.ends
 ends_unkept (Miss l) go rest left cost e = record { ends = tt; fewer = e.fewer; cheap = e.cheap }
 ends_unkept Spent go rest left cost e = absurd e.ends
-
--- several ways, one after the other
-abbrev pub AllEnd : Subject → (ℕ → Type 0) → (ℕ → Type 0) → List (List Todo) → ℕ → Type 0
-AllEnd s From P [] cost = Unit {0}
-AllEnd s From P (way ∷ ways) cost =
-    (first : ℕ) × (others : ℕ) × (first + others ≤ cost) × EndsFrom s From P way first × AllEnd s From P ways others
 
 pub ends_tries : (s : Subject) (From P : ℕ → Type 0) (ways : List (List Todo)) (cost fuel at : ℕ)
     (captures : Captures) (left : ℕ) →

@@ -1,17 +1,17 @@
 -- The bits of the words of rows.
-use Rattle.std.proofs.Common.{◌≡◌, ◌≢◌, ℕ, suc, ◌+◌, ◌*◌, ◌/◌, ◌%◌, ◌^◌, ◌<◌, ◌≤◌, Bool, true, false, List}
+use Rattle.std.proofs.Common.{◌≡◌, ◌≢◌, ℕ, zero, suc, ◌+◌, ◌*◌, ◌/◌, ◌%◌, ◌^◌, ◌<◌, ◌≤◌, Bool, true, false, List}
 use Rattle.std.proofs.Common.{length, refl, sym, ap, ◌∙◌, arith, w64, pow-add}
 use Rattle.std.proofs.lemmas.Bool.{ltb-true, ltb-false}
 use Rattle.std.proofs.lemmas.Nat.{div-mul-add, mod-mul-add}
-use Rattle.std.proofs.lemmas.Nat.Bits.{bit_at_above, bit_at-suc, bit_at-trailing_zeros, bit_at_set_same}
+use Rattle.std.proofs.lemmas.Nat.Bits.{bit_at_above, bit_at-suc, bit_at-trailing_zeros, bit_at_set_same, bit_at_and}
 use Rattle.std.proofs.lemmas.Nat.Bits.{bit_at_set_other}
 use Rattle.std.proofs.Math.Nat.{div-div-eq-div-mul, mul-le-mul_right}
 use Rattle.std.specs.Int.{bit_at, trailing_zeros}
-use Rattle.std.specs.Prelude.{slice_get, IfSome, nat_lt, bit_or}
+use Rattle.std.specs.Prelude.{slice_get, IfSome, nat_lt, bit_or, bit_and, min, Option, Some, None}
 use borrow.Author.Count.{below_more}
 use Rattle.pattern_defs.specs.Patterns.{Tree}
 use Rattle.onig_scan.specs.declared.rows.TheConstants.{ROWS}
-use Rattle.onig_scan.specs.Rows.{IsSpared, IsWord, AreRows, IsRow}
+use Rattle.onig_scan.specs.Rows.{AreScalars, HasRow, IsMissed, IsSpared, IsWord, IsWordHere, AreRows, IsRow}
 
 -- a bit behind a shift
 bit_at-shifted : (n s j : ℕ) → bit_at (n / 2 ^ s) j ≡ bit_at n (s + j)
@@ -81,3 +81,29 @@ row_of_rows trees words cost row rows low size are =
           are.is (row * words + k) fits in
           rw (div-mul-add row words k within, mod-mul-add row words k within) at one;
     }
+
+-- a bit that isn't set in both words is of a pattern that misses by the one row or the other
+pub word_here : (trees : List Tree) (row past first at : ℕ) (text : List ℕ) (cost here before : ℕ) →
+    AreScalars text at → HasRow text at row → HasRow text at past → IsWord trees row first cost here
+    → IsWord trees past first cost before → IsWordHere trees text at first cost (bit_and here before)
+word_here trees row past first at text cost here before scalars has has' one other =
+    record {
+      spares = λ j low zero.
+          let least : min (bit_at here j) (bit_at before j) ≡ 0 = sym (bit_at_and here before j) ∙ zero in
+          by_bits j low (bit_at here j) (bit_at before j) refl refl least;
+    }
+  where
+    missed : (r j : ℕ) → HasRow text at r → IfSome (slice_get trees (first + j)) (λ tree. IsSpared tree r cost)
+        → IfSome (slice_get trees (first + j)) (λ tree. IsMissed tree text at cost)
+    missed r j has spared = by_tree (slice_get trees (first + j)) spared
+      where
+        by_tree : (o : Option Tree) → IfSome o (λ tree. IsSpared tree r cost) → IfSome o (λ tree. IsMissed tree text at cost)
+        by_tree None spared = tt
+        by_tree (Some tree) spared =
+            record { misses = λ flags budget enough. spared.misses text at flags budget scalars has enough }
+
+    by_bits : (j : ℕ) → j < 64 → (a b : ℕ) → bit_at here j ≡ a → bit_at before j ≡ b → min a b ≡ 0
+        → IfSome (slice_get trees (first + j)) (λ tree. IsMissed tree text at cost)
+    by_bits j low zero b is is' least = missed row j has (one.spares j low is)
+    by_bits j low (suc a) zero is is' least = missed past j has' (other.spares j low is')
+    by_bits j low (suc a) (suc b) is is' least = absurd (omega (arith, least))

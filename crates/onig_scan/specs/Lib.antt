@@ -2,7 +2,7 @@ pub mod Answers
 pub mod Bounds
 pub mod Entries
 pub mod Fronts
-pub mod Lines
+pub mod Pasts
 pub mod Rows
 pub mod Runs
 pub mod Scanners

@@ -1,35 +1,42 @@
--- Which patterns of a scanner may match at a place, told by the character that stands there and by whether a line
--- begins
--- there. It spares attempts, and changes no answer.
-use Rattle.std.specs.Prelude.{◌≡◌, ℕ, ◌+◌, ◌*◌, ◌/◌, ◌%◌, ◌<◌, ◌≤◌, ◌==◌, ◌||◌, ◌&&◌, Bool, false, nat_lt}
+-- Which patterns of a scanner may match at a place, told by the character that stands there and by the one before. It
+-- spares attempts, and changes no answer.
+use Rattle.std.specs.Prelude.{◌≡◌, ℕ, ◌+◌, ◌*◌, ◌/◌, ◌%◌, ◌<◌, ◌≤◌, ◌⊎◌, Bool, true, false, cond, nat_lt}
 use Rattle.std.specs.Prelude.{if◌then◌else◌, List, drop, length, Option, Some, None, IfSome, IsSomeAnd, slice_get}
 use Rattle.std.specs.Prelude.{slice_index}
 use Rattle.std.specs.Int.{bit_at}
 use Rattle.pattern_defs.specs.declared.outcomes.Flags.{Flags}
 use Rattle.pattern_defs.specs.declared.outcomes.Found.{Found}
 use Rattle.pattern_defs.specs.Patterns.{Tree}
-use Rattle.pattern_defs.specs.Attempt.{Miss, attempt, char_before, is_char, is_line_feed, capture_of}
+use Rattle.pattern_defs.specs.Attempt.{Miss, attempt, char_before, is_char, capture_of}
 use Rattle.char_sets.specs.Ranges.{in_set}
 use Rattle.char_sets.specs.declared.char_set.CharRange.{CharRange}
 use Rattle.pattern_defs.specs.FirstMatch.{Pair, pairs_at, first_of, found_at, captures_at}
 use Rattle.onig_match.specs.Works.{Worked, IsPart}
 use Rattle.onig_scan.specs.declared.rows.TheConstants.{CLASSES}
 use Rattle.onig_scan.specs.Answers.{IsAmong, IfAt}
+use Rattle.onig_scan.specs.Pasts.{may_precede, is_inside}
 
 -- the characters of ASCII, all others together, and the text's end
 abbrev pub class_of : Option ℕ → ℕ
 class_of (Some c) = if nat_lt c 128 then c else 128
 class_of None = 129
 
-abbrev pub line_begins : List ℕ → ℕ → Bool
-line_begins text at = (at == 0) || (is_line_feed (char_before text at) && nat_lt at (length text))
+-- A row for each of these at a place, and one for each of them before it, where the text's beginning stands for its
+-- end; between two word characters other rows.
+abbrev pub past_row : List ℕ → ℕ → ℕ
+past_row text at = CLASSES + class_of (char_before text at) + cond (is_inside text at) CLASSES 0
 
--- a row for each of these, and another where a line begins
-abbrev pub row_of : List ℕ → ℕ → ℕ
-row_of text at = if line_begins text at then CLASSES + class_of (slice_get text at) else class_of (slice_get text at)
+-- the row is one of a place's
+abbrev pub HasRow : List ℕ → ℕ → ℕ → Type 0
+HasRow text at row = (class_of (slice_get text at) ≡ row) ⊎ (past_row text at ≡ row)
 
 abbrev pub IsScalarAt : List ℕ → ℕ → Type 0
 IsScalarAt text at = IfSome (slice_get text at) (λ c. c < 1_114_112)
+
+-- the characters of a place and before it are in Unicode
+pub record AreScalars (text : List ℕ) (at : ℕ) : Type 0 where
+  pub here : IsScalarAt text at
+  pub past : IfSome (char_before text at) (λ c. c < 1_114_112)
 
 -- no character of this kind is in the set
 pub record HasNone (ranges : List CharRange) (class : ℕ) : Type 0 where
@@ -41,20 +48,35 @@ pub record IsSparedAt (tree : Tree) (class cost : ℕ) : Type 0 where
       class_of (slice_get text at) ≡ class → cost ≤ budget → (rest : ℕ)
       × (attempt tree text at flags budget ≡ Miss rest)
 
--- the same wherever no line begins
-pub record IsSparedInLine (tree : Tree) (cost : ℕ) : Type 0 where
-  pub misses : (text : List ℕ) (at : ℕ) (flags : Flags) (budget : ℕ) → line_begins text at ≡ false → cost ≤ budget →
-      (rest : ℕ) × (attempt tree text at flags budget ≡ Miss rest)
+-- no character of this kind is in the set, and where it is the text's beginning the text doesn't begin
+pub record HasNoneBefore (ranges : List CharRange) (begins : Bool) (class : ℕ) : Type 0 where
+  pub none : (o : Option ℕ) → IfSome o (λ c. c < 1_114_112) → class_of o ≡ class → may_precede ranges begins o ≡ false
+
+-- the same wherever such a character stands before; where so asked, between two word characters
+pub record IsSparedPast (inside : Bool) (tree : Tree) (class cost : ℕ) : Type 0 where
+  pub misses : (text : List ℕ) (at : ℕ) (flags : Flags) (budget : ℕ) → AreScalars text at →
+      class_of (char_before text at) ≡ class → (inside ≡ true → is_inside text at ≡ true) → cost ≤ budget
+      → (rest : ℕ) × (attempt tree text at flags budget ≡ Miss rest)
 
 -- the same at the places of a row
 pub record IsSpared (tree : Tree) (row cost : ℕ) : Type 0 where
-  pub misses : (text : List ℕ) (at : ℕ) (flags : Flags) (budget : ℕ) → IsScalarAt text at → row_of text at ≡ row →
+  pub misses : (text : List ℕ) (at : ℕ) (flags : Flags) (budget : ℕ) → AreScalars text at → HasRow text at row →
       cost ≤ budget → (rest : ℕ) × (attempt tree text at flags budget ≡ Miss rest)
+
+-- an attempt at this place misses
+pub record IsMissed (tree : Tree) (text : List ℕ) (at cost : ℕ) : Type 0 where
+  pub misses : (flags : Flags) (budget : ℕ) → cost ≤ budget → (rest : ℕ)
+      × (attempt tree text at flags budget ≡ Miss rest)
 
 -- the bits that aren't set are of patterns that are spared; the lowest is that of the pattern `first`
 pub record IsWord (trees : List Tree) (row first cost word : ℕ) : Type 0 where
   pub spares : (j : ℕ) → j < 64 → bit_at word j ≡ 0
       → IfSome (slice_get trees (first + j)) (λ tree. IsSpared tree row cost)
+
+-- the bits that aren't set are of patterns that miss at this place
+pub record IsWordHere (trees : List Tree) (text : List ℕ) (at first cost word : ℕ) : Type 0 where
+  pub spares : (j : ℕ) → j < 64 → bit_at word j ≡ 0
+      → IfSome (slice_get trees (first + j)) (λ tree. IsMissed tree text at cost)
 
 -- the words of each row, row by row
 pub record AreRows (trees : List Tree) (words cost : ℕ) (rows : List ℕ) : Type 0 where

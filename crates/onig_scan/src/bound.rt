@@ -1,7 +1,7 @@
 ghost use Rattle.std.specs.Prelude.{◌≡◌, ◌<◌, ◌≤◌, ◌+◌, ◌∷◌, [], IfSome, length, take, Option};
 ghost use Rattle.pattern_defs.specs.Patterns.{nodes_of, IsNode, AreNodes, AllIds, AllArms, AreBounds as IsLeastWithin};
 ghost use Rattle.pattern_defs.specs.declared.nodes.PatNode.TheVariants.{Repeat};
-ghost use Rattle.onig_scan.specs.Bounds.{IsBound, AreBounds, AreArmBounds};
+ghost use Rattle.onig_scan.specs.Bounds.{IsBound, IsBoundOfTimes, AreBounds, AreArmBounds};
 
 use pattern_defs::{Arm, ListId, PatNode};
 use pattern_tree::Pattern;
@@ -9,8 +9,11 @@ use pattern_tree::Pattern;
 /// How many alternatives are looked at.
 pub(crate) const MOST_ARMS: usize = 64;
 
-/// How many visits nodes take at most with what stands behind them, which takes `behind` by itself, in any text. There
-/// is no such number where something may be repeated more than once.
+/// How often a repeat is looked at.
+const MOST_TIMES: u32 = 8;
+
+/// How many visits nodes take at most with what stands behind them, which takes `behind` by itself, in any text. None is
+/// told where something may be repeated more than a few times.
 #[cycle(bounds)]
 pub(crate) fn visits_of(
     pattern: &Pattern,
@@ -47,15 +50,13 @@ fn visits_of_node(pattern: &Pattern, node: &PatNode, after: u64, depth: u32) -> 
             let closed = after.checked_add(1)?;
             visits_of(pattern, pattern.list(*body), closed, depth)
         }
-        PatNode::Repeat { body, most, .. } => match most {
-            Some(0) => Some(after),
-            Some(1) => {
-                let again = after.checked_add(1)?;
-                let once = visits_of(pattern, pattern.list(*body), again, depth)?;
-                once.checked_add(after)
+        PatNode::Repeat { body, most, .. } => {
+            let most = (*most)?;
+            if most > MOST_TIMES {
+                return None;
             }
-            _ => None,
-        },
+            visits_of_times(pattern, *body, most, after, depth)
+        }
         PatNode::Ahead { body, .. } => {
             let seen = visits_of(pattern, pattern.list(*body), 1, depth)?;
             seen.checked_add(after)
@@ -69,6 +70,28 @@ fn visits_of_node(pattern: &Pattern, node: &PatNode, after: u64, depth: u32) -> 
             seen.checked_add(after)
         }
     }
+}
+
+/// The same of a list that may be done so many times yet.
+#[cycle(bounds)]
+fn visits_of_times(
+    pattern: &Pattern,
+    body: ListId,
+    times: u32,
+    after: u64,
+    depth: u32,
+) -> Option<u64>
+    requires body { body.0 < length pattern.now.lists }
+    requires few { times ≤ MOST_TIMES }
+    ensures { IfSome result (λ cost. IsBoundOfTimes pattern.now.lists body times after cost) }
+{
+    if times == 0 {
+        return Some(after);
+    }
+    let others = visits_of_times(pattern, body, times - 1, after, depth)?;
+    let again = others.checked_add(1)?;
+    let one = visits_of(pattern, pattern.list(body), again, depth)?;
+    one.checked_add(after)
 }
 
 /// All alternatives, one after the other.

@@ -1,12 +1,12 @@
-ghost use Rattle.std.specs.Prelude.{◌≡◌, ℕ, ◌+◌, ◌<◌, ◌≤◌, ◌^◌, false, length, IfOk, IfSome, IsSomeAnd, IsTrue};
-ghost use Rattle.onig_scan.specs.Rows.{IsSpared, IsSparedAt, IsSparedInLine};
+ghost use Rattle.std.specs.Prelude.{◌≡◌, ℕ, ◌+◌, ◌<◌, ◌≤◌, ◌^◌, true, false, length, IfOk, IfSome, IsSomeAnd, IsTrue};
+ghost use Rattle.onig_scan.specs.Rows.{IsSpared, IsSparedAt, IsSparedPast};
 ghost use Rattle.std.specs.Rc.{rc_value};
 ghost use Rattle.pattern_defs.specs.Attempt.{capture_of, outcome_of, last_hit_captures, attempt as attempted};
 ghost use Rattle.onig_match.specs.Works.{IsPart};
 
 use crate::front::Front;
 use crate::front_of::front_of_all;
-use crate::line_start::line_visits;
+use crate::past::past_of_all;
 use crate::rows::{CLASSES, ROW_VISITS, ROWS};
 use onig_match::{Work, attempt};
 use pattern_defs::{Flags, Outcome};
@@ -15,13 +15,15 @@ use std::alloc::{AllocError, Global};
 use std::marker::Model;
 use std::rc::Rc;
 
-/// A pattern of a scanner, and the characters of which it needs one where it matches, where these are known.
+/// A pattern of a scanner, and the characters of which it needs one where it matches and before, where these are known.
 #[derive(Debug, Drop)]
 pub(crate) struct Entry {
     pattern: Rc<Pattern>,
     front: Option<Front>,
-    /// How many visits tell that it misses where no line begins, if it always does.
-    line: Option<u64>,
+    /// The characters of which it needs one before the place.
+    past: Option<Front>,
+    /// The same between two word characters.
+    inner: Option<Front>,
 }
 
 impl Model for Entry {
@@ -34,7 +36,7 @@ impl Model for Entry {
 
     ghost view = { λ e. rc_value e.pattern };
 
-    ghost invariant = { λ e. HasFront (rc_value e.pattern) e.front e.line };
+    ghost invariant = { λ e. HasFront (rc_value e.pattern) e.front e.past e.inner };
 }
 
 impl Entry {
@@ -42,12 +44,14 @@ impl Entry {
         ensures { IfOk result (λ e. e ≡ rc_value pattern.now) }
     {
         let front = front_of_all(alloc, pattern)?;
-        let line = line_visits(pattern);
+        let past = past_of_all(alloc, pattern, false)?;
+        let inner = past_of_all(alloc, pattern, true)?;
         let pattern = pattern.clone()?;
         Ok(Entry {
             pattern,
             front,
-            line,
+            past,
+            inner,
         })
     }
 
@@ -56,16 +60,6 @@ impl Entry {
         ensures { result ≡ self.now.groups }
     {
         self.pattern.groups()
-    }
-
-    /// Whether the pattern has to be tried where a line begins alone.
-    fn needs_line(&self) -> bool
-        ensures { IsTrue result → IsSparedInLine self.now ROW_VISITS }
-    {
-        match self.line {
-            Some(visits) => visits <= u64::from(ROW_VISITS),
-            None => false,
-        }
     }
 
     /// Whether the pattern may match where such a character stands.
@@ -78,18 +72,38 @@ impl Entry {
         }
     }
 
+    /// Whether the pattern may match where such a character stands before the place.
+    fn may_follow(&self, class: usize) -> bool
+        ensures { (result ≡ false) → IsSparedPast false self.now class ROW_VISITS }
+    {
+        match &self.past {
+            Some(past) => past.cost > u64::from(ROW_VISITS) || past.may_precede(class),
+            None => true,
+        }
+    }
+
+    /// The same between two word characters.
+    fn may_go_on(&self, class: usize) -> bool
+        ensures { (result ≡ false) → IsSparedPast true self.now class ROW_VISITS }
+    {
+        match &self.inner {
+            Some(inner) => inner.cost > u64::from(ROW_VISITS) || inner.may_precede(class),
+            None => true,
+        }
+    }
+
     /// Whether the pattern may match at the places of a row.
     pub(crate) fn may_match(&self, row: usize) -> bool
         requires { row < ROWS }
         ensures { (result ≡ false) → IsSpared self.now row ROW_VISITS }
     {
-        if row >= CLASSES {
-            return self.may_stand(row - CLASSES);
+        if row < CLASSES {
+            self.may_stand(row)
+        } else if row < 2 * CLASSES {
+            self.may_follow(row - CLASSES)
+        } else {
+            self.may_go_on(row - 2 * CLASSES)
         }
-        if self.needs_line() {
-            return false;
-        }
-        self.may_stand(row)
     }
 
     /// An attempt of the pattern, which is spared where it would miss for want of a character.

@@ -1,12 +1,13 @@
 ghost use Rattle.std.specs.Prelude.{◌≡◌, ◌≤◌, ◌+◌, [], true, false, IfOk, IfSome, IsSomeAnd, IsTrue};
 ghost use Rattle.onig_scan.specs.Fronts.{IsWithin, IsWithout, IsWider};
-ghost use Rattle.onig_scan.specs.Rows.{HasNone};
+ghost use Rattle.onig_scan.specs.Rows.{HasNone, HasNoneBefore};
 
 use char_sets::CharSet;
 use std::alloc::{AllocError, Global};
 
 /// Characters of which one stands wherever nodes match, and how many visits an attempt takes at most to miss where
-/// none of them stands. Where `stays`, the nodes may also hit there and take nothing.
+/// none of them stands. Where `stays`, the nodes may also hit there and take nothing. The same is kept of the character
+/// that stands before a place: where `stays`, the text may also begin there.
 #[derive(Debug, Drop)]
 pub(crate) struct Front {
     pub(crate) set: CharSet,
@@ -45,6 +46,17 @@ impl Front {
             self.set.has(class as u8 as char)
         } else {
             class == 128
+        }
+    }
+
+    /// Whether a character of this kind may be in the set, or none where the text may begin.
+    pub(crate) fn may_precede(&self, class: usize) -> bool
+        ensures { (result ≡ false) → HasNoneBefore self.now.set self.now.stays class }
+    {
+        if class == 129 {
+            self.stays
+        } else {
+            self.may_have(class)
         }
     }
 

@@ -151,7 +151,7 @@ fn front_of_own(
 }
 
 /// The characters before a lookahead. Where it is wanted, those of its body will do, if they are known; else, where its
-/// visits are bounded, those of what stands behind it.
+/// visits are bounded, those of what stands behind it, and otherwise both.
 #[cycle(fronts)]
 fn front_of_ahead(
     alloc: Global,
@@ -170,9 +170,32 @@ fn front_of_ahead(
         }
     }
     let Some(visits) = visits_of(pattern, pattern.list(body), 1, depth) else {
-        return Ok(None);
+        return front_of_both(alloc, pattern, body, wanted, after, depth);
     };
     Ok(with_visits(copied(alloc, after)?, visits))
+}
+
+/// The characters before a lookahead whose visits aren't bounded: where none of those of its body stands, these are.
+#[cycle(fronts)]
+fn front_of_both(
+    alloc: Global,
+    pattern: &Pattern,
+    body: ListId,
+    wanted: bool,
+    after: &Option<Front>,
+    depth: u32,
+) -> Result<Option<Front>, AllocError>
+    requires { body.0 < length pattern.now.lists }
+    ensures { IfOk result (λ o. IfSome o (λ f. IsFront pattern.now.lists (Ahead body wanted ∷ []) after.now f (f.cost + 1))) }
+{
+    let end = Some(Front::at_end(alloc));
+    let Some(inner) = front_of(alloc, pattern, pattern.list(body), &end, depth)? else {
+        return Ok(None);
+    };
+    match after {
+        None => Ok(None),
+        Some(after) => joined(alloc, &inner, after, after.stays),
+    }
 }
 
 /// The characters before a repeat: those of its body, and of what follows it where it may take nothing.

@@ -6,7 +6,7 @@ mod entry;
 mod front;
 mod front_of;
 pub mod laws;
-mod line_start;
+mod past;
 mod rows;
 pub mod scanner;
 

@@ -1,56 +1,71 @@
 ghost use Rattle.std.specs.Prelude.{◌≡◌, ◌+◌, ◌-◌, ◌*◌, ◌/◌, ◌<◌, ◌≤◌, ◌^◌, false, length, slice_get, IfOk, IfSome};
-ghost use Rattle.onig_scan.specs.Rows.{row_of, class_of, line_begins, IsScalarAt, IsSpared, IsWord, AreRows};
+ghost use Rattle.char_sets.specs.Named.{is_word};
+ghost use Rattle.pattern_defs.specs.Attempt.{char_before, is_char};
+ghost use Rattle.onig_scan.specs.Rows.{class_of as kind_of, past_row, AreScalars, IsSpared, IsWord, AreRows};
 
 use crate::entry::Entry;
+use char_sets::is_word_char;
 use std::alloc::{AllocError, Global};
 
 /// How many visits an attempt may take where rows are looked at, and a pattern to miss for a row to leave it out.
 pub(crate) const ROW_VISITS: u32 = 1000;
 
-/// How many kinds of places there are by their character: those of ASCII, all others together, and the text's end.
+/// How many kinds of characters there are: those of ASCII, all others together, and none, at the text's end or beginning.
 pub(crate) const CLASSES: usize = 130;
 
-/// The same, where a line begins and where none begins.
-pub(crate) const ROWS: usize = 260;
+/// A row for each of these at a place, one for each before it, and one for each before it between two word characters.
+pub(crate) const ROWS: usize = 390;
 
-fn begins_line(text: &[char], at: u32) -> bool
-    requires { at ≤ length text.now }
-    ensures { result ≡ line_begins text.now at }
-{
-    let place = at as usize;
-    if place == 0 {
-        return true;
-    }
-    text[place - 1] == '\n' && place < text.len()
-}
-
-fn class_at(text: &[char], at: u32) -> usize
-    requires { at ≤ length text.now }
-    ensures class { result ≡ class_of (slice_get text.now at) }
-    ensures scalar { IsScalarAt text.now at }
+fn class_of(c: Option<char>) -> usize
+    ensures class { result ≡ kind_of c }
+    ensures scalar { IfSome c (λ c. c < 1_114_112) }
     ensures small { result < CLASSES }
 {
-    match text.get(at as usize) {
+    match c {
         None => CLASSES - 1,
         Some(c) => {
-            let code = *c as u32;
+            let code = c as u32;
             if code < 128 { code as usize } else { 128 }
         }
     }
 }
 
-/// The row of a place.
-pub(crate) fn row_at(text: &[char], at: u32) -> usize
-    requires { at ≤ length text.now }
-    ensures row { result ≡ row_of text.now at }
-    ensures scalar { IsScalarAt text.now at }
-    ensures small { result < ROWS }
+fn is_word_at(c: Option<char>) -> bool
+    ensures { result ≡ is_char is_word c }
 {
-    let class = class_at(text, at);
-    if begins_line(text, at) {
-        CLASSES + class
+    match c {
+        Some(c) => is_word_char(c),
+        None => false,
+    }
+}
+
+/// The character before a place.
+fn char_behind(text: &[char], at: u32) -> Option<char>
+    requires { at ≤ length text.now }
+    ensures { result ≡ char_before text.now at }
+{
+    if at == 0 {
+        None
     } else {
-        class
+        Some(text[at as usize - 1])
+    }
+}
+
+/// The two rows of a place: by what stands there, and by what stands before.
+pub(crate) fn rows_at(text: &[char], at: u32) -> (usize, usize)
+    requires { at ≤ length text.now }
+    ensures here { result.0 ≡ kind_of (slice_get text.now at) }
+    ensures past { result.1 ≡ past_row text.now at }
+    ensures scalars { AreScalars text.now at }
+    ensures small { (result.0 < ROWS) × (result.1 < ROWS) }
+{
+    let next = text.get(at as usize).copied();
+    let last = char_behind(text, at);
+    let past = CLASSES + class_of(last);
+    if is_word_at(last) && is_word_at(next) {
+        (class_of(next), past + CLASSES)
+    } else {
+        (class_of(next), past)
     }
 }
 

@@ -5,10 +5,10 @@ ghost use Rattle.pattern_defs.specs.FirstMatch.{pairs_at, first_of, first_match,
 ghost use Rattle.pattern_defs.specs.Attempt.{capture_of};
 ghost use Rattle.onig_match.specs.Works.{IsPart};
 ghost use Rattle.onig_scan.specs.Answers.{IsAmong, IfAt};
-ghost use Rattle.onig_scan.specs.Rows.{row_of, IsScalarAt, IsWord, IsRow, IsDecided, GoesOn, IsPassed};
+ghost use Rattle.onig_scan.specs.Rows.{class_of, past_row, AreScalars, IsWordHere, IsRow, IsDecided, GoesOn, IsPassed};
 
 use crate::entry::Entry;
-use crate::rows::{ROW_VISITS, row_at, rows_of};
+use crate::rows::{ROW_VISITS, rows_at, rows_of};
 use onig_match::Work;
 use pattern_defs::{Flags, Found, Outcome};
 use pattern_tree::Pattern;
@@ -119,9 +119,8 @@ fn find_in_word(
     requires short { length text.now < 2 ^ 31 }
     requires inside { at ≤ length text.now }
     requires room { All (λ tree. tree.groups ≤ work.old.room) entries.now }
-    requires scalar { IsScalarAt text.now at }
     requires enough { ROW_VISITS ≤ work.old.budget }
-    requires word { IsWord entries.now (row_of text.now at) first ROW_VISITS word }
+    requires word { IsWordHere entries.now text.now at first ROW_VISITS word }
     ensures missed { IfNone result (GoesOn entries.now first (first + 64) at text.now flags work.old work.new) }
     ensures found { IfSome result (IsDecided entries.now first at text.now flags work.old work.new) }
 {
@@ -143,11 +142,13 @@ fn find_in_word(
     None
 }
 
-/// The first of the patterns that matches at this place, by the words of its row, which begin at `start`.
-fn find_in_row(
+/// The first of the patterns that matches at this place, by the words of its two rows, which begin at `start` and at
+/// `past`.
+fn find_in_rows(
     entries: &[Entry],
     rows: &[u64],
     start: usize,
+    past: usize,
     words: usize,
     work: &mut Work,
     text: &[char],
@@ -157,18 +158,20 @@ fn find_in_row(
     requires few { length entries.now < 2 ^ 32 }
     requires small { words < 2 ^ 32 }
     requires all { length entries.now ≤ 64 * words }
-    requires within { start + words ≤ length rows.now }
+    requires within { (start + words ≤ length rows.now) × (past + words ≤ length rows.now) }
     requires short { length text.now < 2 ^ 31 }
     requires inside { at ≤ length text.now }
     requires room { All (λ tree. tree.groups ≤ work.old.room) entries.now }
-    requires scalar { IsScalarAt text.now at }
+    requires scalars { AreScalars text.now at }
     requires enough { ROW_VISITS ≤ work.old.budget }
-    requires row { IsRow entries.now (row_of text.now at) ROW_VISITS rows.now start words }
+    requires row { IsRow entries.now (class_of (slice_get text.now at)) ROW_VISITS rows.now start words }
+    requires before { IsRow entries.now (past_row text.now at) ROW_VISITS rows.now past words }
     ensures missed { IfNone result (GoesOn entries.now 0 (64 * words) at text.now flags work.old work.new) }
     ensures found { IfSome result (IsDecided entries.now 0 at text.now flags work.old work.new) }
 {
     for k in 0..words {
-        let found = find_in_word(entries, rows[start + k], 64 * k, work, text, at, flags);
+        let word = rows[start + k] & rows[past + k];
+        let found = find_in_word(entries, word, 64 * k, work, text, at, flags);
         if found.is_some() {
             return found;
         }
@@ -215,12 +218,12 @@ impl Scanner {
         if work.budget() < ROW_VISITS {
             return find_in_all(&self.entries, work, text, at, flags);
         }
-        let row = row_at(text, at);
-        let start = row * self.words;
-        find_in_row(
+        let (row, past) = rows_at(text, at);
+        find_in_rows(
             &self.entries,
             &self.rows,
-            start,
+            row * self.words,
+            past * self.words,
             self.words,
             work,
             text,
@@ -238,7 +241,8 @@ impl Scanner {
         if self.words != 1 || budget < ROW_VISITS {
             return false;
         }
-        self.rows[row_at(text, at)] == 0
+        let (row, past) = rows_at(text, at);
+        self.rows[row] & self.rows[past] == 0
     }
 
     /// The first match from a place on: places are tried in order, and at each the patterns in order. What the

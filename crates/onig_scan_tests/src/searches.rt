@@ -408,6 +408,60 @@ fn the_first_match_is_found(rt: HostRuntime) -> Result<(), Fail> {
 }
 
 #[test]
+fn what_stands_behind_lookarounds_is_found(rt: HostRuntime) -> Result<(), Fail> {
+    let rows: [(&str, &str, &str); 8] = [
+        (
+            "(?:(?<=\\.{3})|(?<!\\.)\\b)t",
+            "...t",
+            "At { index: 0 } 3-4",
+        ),
+        ("(?:(?<=\\.{3})|(?<!\\.)\\b)t", ".t", "Nowhere ."),
+        ("(?=a{2,3}b)", "xaaab", "At { index: 0 } 1-1"),
+        ("(?![_$]+[^A-Z])[A-Z_]+", "_a_B", "At { index: 0 } 2-4"),
+        ("(?!a+b)[ac]", "aabc", "At { index: 0 } 3-4"),
+        ("(?!a+b)", "ab", "At { index: 0 } 1-1"),
+        ("(?!a*)b", "ab", "Nowhere ."),
+        ("(?!(?:ab){9}c)a", "xa", "At { index: 0 } 1-2"),
+    ];
+    for (pattern, text, expected) in rows {
+        let text: Vec<char> = text.chars().collect(rt.alloc())?;
+        let read = all_read(rt.alloc(), &[pattern])?;
+        if read.len() > 100 {
+            continue;
+        }
+        let scanner = Scanner::new(rt.alloc(), read.as_slice())?;
+        let found = searched(rt.alloc(), &scanner, text.as_slice(), 0, 2000)?;
+        assert_eq!(rt; found.as_str(), expected);
+    }
+    Ok(())
+}
+
+#[test]
+fn what_stands_before_a_place_is_looked_at(rt: HostRuntime) -> Result<(), Fail> {
+    let rows: [(&[&str], &str, u32, &str); 8] = [
+        (&["\\bb", "b"], "ab", 0, "At { index: 1 } 1-2"),
+        (&["\\bb", "b"], "a b", 0, "At { index: 0 } 2-3"),
+        (&["\\b"], "ab", 1, "At { index: 0 } 2-2"),
+        (&["(?:\\b)c|\\Bb"], "abc", 0, "At { index: 0 } 1-2"),
+        (&["(?<=a)b", "b"], "b", 0, "At { index: 1 } 0-1"),
+        (&["(?<!a)b", "b"], "ab", 0, "At { index: 1 } 1-2"),
+        (&["(?<![a\u{e9}])b"], "\u{e9}bb", 0, "At { index: 0 } 2-3"),
+        (&["(?=^)b", "b"], "b", 0, "At { index: 0 } 0-1"),
+    ];
+    for (patterns, text, from, expected) in rows {
+        let text: Vec<char> = text.chars().collect(rt.alloc())?;
+        let read = all_read(rt.alloc(), patterns)?;
+        if read.len() > 100 {
+            continue;
+        }
+        let scanner = Scanner::new(rt.alloc(), read.as_slice())?;
+        let found = searched(rt.alloc(), &scanner, text.as_slice(), from, 2000)?;
+        assert_eq!(rt; found.as_str(), expected);
+    }
+    Ok(())
+}
+
+#[test]
 fn patterns_beyond_the_first_word_of_a_row_are_found(rt: HostRuntime) -> Result<(), Fail> {
     let mut patterns = Vec::new(rt.alloc());
     for _ in 0..65 {

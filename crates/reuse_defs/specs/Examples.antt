@@ -1,13 +1,13 @@
 -- Worked examples of settled marks, each named by what it shows.
-use Rattle.std.specs.Prelude.{◌≡◌, ℕ, ◌+◌, List, [], ◌∷◌, map, true, false, Some, None, refl}
+use Rattle.std.specs.Prelude.{◌≡◌, ℕ, ◌+◌, [], ◌∷◌, map, true, false, Some, None, refl}
 use Rattle.text_pos.specs.declared.length.Length.{Length}
 use Rattle.pairing_defs.specs.declared.Mark.{Mark}
 use Rattle.pairing_defs.specs.declared.Role.TheVariants.{Opener}
-use Rattle.tree_defs.specs.Tree.{Tree, Nothing, Text, Pair, Two, Three}
+use Rattle.tree_defs.specs.Tree.{Tree, Nothing, Text, Pair, Three}
 use Rattle.tree_defs.specs.Rows.{start}
 use Rattle.change_defs.specs.declared.Change.{Change}
 use Rattle.change_defs.specs.Changes.{placed}
-use Rattle.reuse_defs.specs.Settled.{ClosedPair, closed_pairs, is_unmet, is_settled, closer_start}
+use Rattle.reuse_defs.specs.Settled.{closed_pairs, is_unmet, is_settled, closer_start}
 
 abbrev pub far : ℕ → ℕ → Length
 far lines cols = record { lines = lines; cols = cols }

@@ -33,7 +33,7 @@ use Rattle.reuse_parser.proofs.Within.{PartIn, part_in, Lies, lies, AllFrom, All
 use Rattle.reuse_parser.proofs.Moved.{not_is_less, less_is, AllSome, some_front, some_back, follow_some}
 use Rattle.reuse_parser.proofs.Stretch.{image_there, outside_there, mid_moved, marks_there}
 
-room_of : (r : Option Length) (len : Length) → HasRoom r len → has_room r len ≡ true
+pub room_of : (r : Option Length) (len : Length) → HasRoom r len → has_room r len ≡ true
 room_of None len room = refl
 room_of (Some r) len room = less_is len r room
 

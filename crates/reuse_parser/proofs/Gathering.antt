@@ -21,7 +21,7 @@ use Rattle.reuse_parser.specs.declared.old.Old.{Old}
 use Rattle.reuse_defs.specs.Since.{lengths_of}
 use Rattle.reuse_parser.specs.Reusing.{ahead_of, IsIn, Adds, Fills, InLines}
 use Rattle.reuse_parser.specs.Reading.{Lasts, IsStop, LeftAt, StandsAt, closer_has}
-use Rattle.reuse_parser.specs.Olds.{IsReady}
+use Rattle.reuse_parser.specs.Olds.{IsSet}
 use Rattle.reuse_parser.proofs.Marks.{size_ends, in_line, is_at}
 use Rattle.reuse_parser.proofs.Loops.{deepest, deepest_of, deepest_more, depth_leaves}
 use Rattle.reuse_parser.proofs.Pairs.{stands_within, kind_above, above_kept, none_more, left_stopped}
@@ -210,7 +210,7 @@ pub front_is : (lines : List MarkedLine) (a : Around) (s : Source) (old : Old) (
     → IsStop lines a s old stop → front_has (ahead_of lines stop.at) kind ≡ closer_has stop.closer kind
 front_is lines a s old stop kind is = by stop.closer refl is.left
   where
-    by : (c : Option Mark) → stop.closer ≡ c → LeftAt lines s old stop.at c
+    by : (c : Option Mark) → stop.closer ≡ c → LeftAt lines a.limit s old stop.at c
         → front_has (ahead_of lines stop.at) kind ≡ closer_has stop.closer kind
     by None e left = ap (λ ms. front_has ms kind) left.2 ∙ sym (ap (λ c. closer_has c kind) e)
     by (Some m) e left = ap (λ ms. front_has ms kind) left.0 ∙ sym (ap (λ c. closer_has c kind) e)
@@ -220,19 +220,19 @@ pub outer_stop : (lines : List MarkedLine) (a b : Around) (s : Source) (old : Ol
     → IsStop lines a s old stop
 outer_stop lines a b s old stop kind w is none = record {
   stopped = left_stopped a b kind stop.at (ahead_of lines stop.at) w none is.stopped;
-  left = is.left;
+  left = subst (λ n. LeftAt lines n s old stop.at stop.closer) w.limit is.left;
 }
 
-pub record ClosesAt (lines : List MarkedLine) (s : Source) (old : Old) (at : Length) (m : Mark) : Type 0 where
+pub record ClosesAt (lines : List MarkedLine) (limit : ℕ) (s : Source) (old : Old) (at : Length) (m : Mark) : Type 0 where
   pub starts : at ≡ start_of m
   pub is : ahead_of lines at ≡ m ∷ ahead_of lines (end_of m)
   pub stands : StandsAt s (end_of m)
-  pub ready : IsReady old (end_of m)
+  pub ready : IsSet lines limit old (end_of m)
 
 pub closes_at : (lines : List MarkedLine) (a : Around) (s : Source) (old : Old) (stop : Stop) (m : Mark)
-    → IsStop lines a s old stop → stop.closer ≡ Some m → ClosesAt lines s old stop.at m
+    → IsStop lines a s old stop → stop.closer ≡ Some m → ClosesAt lines a.limit s old stop.at m
 closes_at lines a s old stop m is e =
-    let left : LeftAt lines s old stop.at (Some m) = subst (λ c. LeftAt lines s old stop.at c) e is.left in record {
+    let left : LeftAt lines a.limit s old stop.at (Some m) = subst (λ c. LeftAt lines a.limit s old stop.at c) e is.left in record {
       starts = (subst (λ l. Stopped a stop.at l) left.0 is.stopped).0;
       is = left.0;
       stands = left.1;

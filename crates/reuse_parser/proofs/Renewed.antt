@@ -28,6 +28,11 @@ use Rattle.reuse_defs.specs.Since.{lengths_of}
 use Rattle.reuse_parser.specs.Reusing.{ahead_of, IsIn, AreShort, Fills}
 use Rattle.reuse_parser.specs.Reading.{StandsAt, IsStop, LeftAt}
 use Rattle.reuse_parser.specs.Olds.{Went}
+use Rattle.reuse_defs.specs.Settled.{is_unsettled}
+use Rattle.reuse_defs.specs.Unsettled.{RisesByFresh}
+use Rattle.change_defs.specs.declared.Change.{Change}
+use Rattle.fresh_laws.proofs.FreshLaw.{fresh_law}
+use Rattle.std.proofs.Common.{count_by}
 use Rattle.reuse_defs.specs.Whole.{StandsFor}
 use Rattle.reuse_parser.proofs.AheadOf.{up_to_itself}
 use Rattle.reuse_parser.proofs.Reused.{in_fits, weaker}
@@ -65,7 +70,7 @@ whole_stop lines a s old stop none is = by stop.closer is.left
     open_none : (m : Mark) → ((k : ℕ) × IsTrue (role_has m.role k && has_kind a.above k)) → ⊥
     open_none m o = nothing_open (role_has m.role o.0) (has_kind a.above o.0) (none o.0) o.1
 
-    by : (c : Option Mark) → LeftAt lines s old stop.at c → IsWhole lines a.end s stop.at
+    by : (c : Option Mark) → LeftAt lines a.limit s old stop.at c → IsWhole lines a.end s stop.at
     by None left = record {
       ends = subst (λ ms. Stopped a stop.at ms) left.2 is.stopped;
       none = left.2;
@@ -110,12 +115,33 @@ pub seeks : (lines : List MarkedLine) (last : Length) (s : Source) (at : Length)
 seeks lines last s at p w is ends =
     subst (λ q. is_before q s.place ≡ false) (ap place w.ends ∙ is ∙ sym ends) w.stands.place
 
-pub few_steps : (s u : Source) (n k : ℕ) (old now : Old) → AreMarked s.lines → s.place ≡ first_place
-    → Went s n old u k now → k ≤ n + length (marks_in s.lines)
-few_steps s u n k old now marked begin went =
+pub few_steps : (limit : ℕ) (s u : Source) (n k : ℕ) (old now : Old) → AreMarked s.lines → s.place ≡ first_place
+    → Went limit s n old u k now → k ≤ n + length (marks_in s.lines)
+few_steps limit s u n k old now marked begin went =
     let all = ap length (all_marks s marked begin) in let few = went.few in omega (arith, all, few)
 
-pub few_given : (s u : Source) (n k : ℕ) (old now : Old) → AreMarked s.lines → s.place ≡ first_place
-    → Went s n old u k now → u.given ≤ s.given + length (marks_in s.lines)
-few_given s u n k old now marked begin went =
+pub few_given : (limit : ℕ) (s u : Source) (n k : ℕ) (old now : Old) → AreMarked s.lines → s.place ≡ first_place
+    → Went limit s n old u k now → u.given ≤ s.given + length (marks_in s.lines)
+few_given limit s u n k old now marked begin went =
     let all = ap length (all_marks s marked begin) in let few = went.few_given in omega (arith, all, few)
+
+-- where each old mark has a row with a partner and each new mark a row, by at most the unsettled marks
+pub fresh_rises : (limit : ℕ) (s u : Source) (n k : ℕ) (old now : Old) → AreMarked s.lines → s.place ≡ first_place
+    → Went limit s n old u k now → RisesByFresh limit old.reader.tree old.mapper s.lines n k
+fresh_rises limit s u n k old now marked begin went since paired uncut =
+    let all = ap (λ ms. count_by (is_unsettled old.reader.tree old.mapper) ms) (all_marks s marked begin) in
+    let few = went.fresh (record { since = since; paired = paired; uncut = uncut }) in
+    let most = fresh_law limit old.reader.tree old.mapper s.lines since paired in omega (arith, all, few, most)
+
+pub fresh_given : (limit : ℕ) (s u : Source) (n k : ℕ) (old now : Old) → AreMarked s.lines → s.place ≡ first_place
+    → Went limit s n old u k now → RisesByFresh limit old.reader.tree old.mapper s.lines s.given u.given
+fresh_given limit s u n k old now marked begin went since paired uncut =
+    let all = ap (λ ms. count_by (is_unsettled old.reader.tree old.mapper) ms) (all_marks s marked begin) in
+    let few = went.fresh_given (record { since = since; paired = paired; uncut = uncut }) in
+    let most = fresh_law limit old.reader.tree old.mapper s.lines since paired in omega (arith, all, few, most)
+
+-- the same of a tree and changes that are the same
+pub rises_on : (limit : ℕ) (t u : Tree) (a b : List Change) (lines : List MarkedLine) (n k : ℕ) → t ≡ u → a ≡ b
+    → RisesByFresh limit t a lines n k → RisesByFresh limit u b lines n k
+rises_on limit t u a b lines n k same changes h = subst (λ x. RisesByFresh limit x b lines n k) same
+    (subst (λ y. RisesByFresh limit t y lines n k) changes h)

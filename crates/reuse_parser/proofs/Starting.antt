@@ -22,7 +22,7 @@ first_in ask (x ∷ ts) t (inl h) =
     let same : t ≡ x = let e = h.1 in cc in (inl same, subst (λ y. IsPassing ask y) (sym same) h.0)
 first_in ask (x ∷ ts) t (inr h) = let more = first_in ask ts t h.1 in (inr more.0, more.1)
 
-in_part : {X : Type 0} (x : X) (xs ys : List X) → IsIn x (xs ++ ys) → IsIn x xs ⊎ IsIn x ys
+pub in_part : {X : Type 0} (x : X) (xs ys : List X) → IsIn x (xs ++ ys) → IsIn x xs ⊎ IsIn x ys
 in_part x [] ys is = inr is
 in_part x (y ∷ xs) ys (inl same) = inl (inl same)
 in_part x (y ∷ xs) ys (inr is) = add (in_part x xs ys is)

@@ -287,7 +287,7 @@ module _ (limit : ℕ) (test : Length → Bool) where
   unclosed_in t o level opener kind inside (unclosed a b c) from n ms s ends up held = absurd s
   unclosed_in t o level opener kind inside stray from n ms s ends up held = absurd s
 
-three_long : (from a b c : Length) → plus (plus (plus from a) b) c ≡ plus from (plus (plus a b) c)
+pub three_long : (from a b c : Length) → plus (plus (plus from a) b) c ≡ plus from (plus (plus a b) c)
 three_long from a b c = ap (λ p. plus p c) (plus_assoc from a b) ∙ plus_assoc from (plus a b) c
 
 -- a part ends at or before the end of its tree

@@ -1,4 +1,5 @@
 pub mod AddLaws
+pub mod Counting
 pub mod Olds
 pub mod Parsing
 pub mod Reading

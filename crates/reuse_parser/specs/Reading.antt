@@ -12,7 +12,7 @@ use Rattle.reuse_parser.specs.declared.old.Old.{Old}
 use Rattle.reuse_parser.specs.declared.relist.Stop.{Stop}
 use Rattle.reuse_parser.specs.declared.relist.Next.{Next}
 use Rattle.reuse_parser.specs.declared.relist.Next.TheVariants as next
-use Rattle.reuse_parser.specs.Olds.{IsReady}
+use Rattle.reuse_parser.specs.Olds.{IsSet}
 use Rattle.reuse_parser.specs.Parsing.{Stopped, end_of, role_has}
 use Rattle.reuse_parser.specs.Reusing.{ahead_of, Adds, Fills}
 
@@ -22,14 +22,14 @@ pub record StandsAt (s : Source) (at : Length) : Type 0 where
   pub ahead : ahead s ≡ ahead_of s.lines at
 
 -- what is left of the marks where a list ends at a closer that is read
-abbrev pub LeftAt : List MarkedLine → Source → Old → Length → Option Mark → Type 0
-LeftAt lines s old at None = StandsAt s at × IsReady old at × (ahead_of lines at ≡ [])
-LeftAt lines s old at (Some m) = (ahead_of lines at ≡ m ∷ ahead_of lines (end_of m)) × StandsAt s (end_of m)
-    × IsReady old (end_of m)
+abbrev pub LeftAt : List MarkedLine → ℕ → Source → Old → Length → Option Mark → Type 0
+LeftAt lines limit s old at None = StandsAt s at × IsSet lines limit old at × (ahead_of lines at ≡ [])
+LeftAt lines limit s old at (Some m) = (ahead_of lines at ≡ m ∷ ahead_of lines (end_of m)) × StandsAt s (end_of m)
+    × IsSet lines limit old (end_of m)
 
 pub record IsStop (lines : List MarkedLine) (a : Around) (s : Source) (old : Old) (stop : Stop) : Type 0 where
   pub stopped : Stopped a stop.at (ahead_of lines stop.at)
-  pub left : LeftAt lines s old stop.at stop.closer
+  pub left : LeftAt lines a.limit s old stop.at stop.closer
 
 -- a pair without closer, behind which its list ends
 pub record Lasts (lines : List MarkedLine) (a : Around) (at : Length) (node : tree.Tree) (to : Length) : Type 0 where
@@ -38,7 +38,7 @@ pub record Lasts (lines : List MarkedLine) (a : Around) (at : Length) (node : tr
 
 -- what stands next in a list
 abbrev pub IsNext : List MarkedLine → Around → Length → Source → Old → Next → Type 0
-IsNext lines a at s old (next.Node node to) = Adds lines a at node to × StandsAt s to × IsReady old to
+IsNext lines a at s old (next.Node node to) = Adds lines a at node to × StandsAt s to × IsSet lines a.limit old to
 IsNext lines a at s old (next.Last node stop) = Lasts lines a at node stop.at × IsStop lines a s old stop
 IsNext lines a at s old (next.End stop) = (stop.at ≡ at) × IsStop lines a s old stop
 

@@ -1,7 +1,8 @@
-ghost use Rattle.std.specs.Prelude.{◌≡◌, IfSome, true};
+ghost use Rattle.std.specs.Prelude.{◌≡◌, IfSome, None, true};
 ghost use Rattle.change_defs.specs.Changes.{are_in_order};
 ghost use Rattle.reuse_parser.specs.Reusing.{IsFound};
 ghost use Rattle.reuse_parser.specs.Olds.{IsReady, IsSame};
+ghost use Rattle.reuse_parser.specs.Counting.{NonePasses};
 
 use crate::place::Around;
 use bracket_ast::Node;
@@ -17,10 +18,12 @@ pub(crate) struct Old<'a> {
 }
 
 /// The longest node of the old tree that has a row, stands at this place of the new text too, and keeps its rows there.
+/// None only where no closed pair is such.
 pub(crate) fn node_at<'a>(old: &mut Old<'a>, at: Length, around: Around) -> Option<&'a Node>
     requires ready { IsReady old.old at }
     requires order { are_in_order old.old.mapper ≡ true }
     ensures found { IfSome result (λ t. IsFound old.old.reader.tree old.old.mapper around at t.now) }
+    ensures none { result ≡ None → NonePasses old.old.reader.tree old.old.mapper around at }
     ensures same { IsSame old.old old.new }
     ensures ready { IsReady old.new at }
 {

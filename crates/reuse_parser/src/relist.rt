@@ -11,7 +11,8 @@ ghost use Rattle.bracket_ast.specs.Shapes.{or_nothing};
 ghost use Rattle.reuse_parser.specs.Parsing.{IsAround, start_of, end_of, next_start, role_has};
 ghost use Rattle.reuse_parser.specs.Reusing.{IsIn, Adds, Fills};
 ghost use Rattle.reuse_parser.specs.Reading.{StandsAt, IsStop, IsNext, closer_has, IsMark};
-ghost use Rattle.reuse_parser.specs.Olds.{IsReady, IsSince, Went};
+ghost use Rattle.reuse_parser.specs.Olds.{IsSet, IsSince, IsUnseen, Went};
+ghost use Rattle.reuse_parser.specs.Counting.{IsOpenAt};
 
 use crate::old::{Old, node_at};
 use crate::place::{Around, end_of, size_of, start_of};
@@ -63,10 +64,11 @@ pub(crate) fn list_from<S: MarkSource, M: Ledger>(
     requires place { IsIn (S.told source.old).lines around from }
     requires stands { StandsAt (S.told source.old) from }
     requires since { IsSince around.limit old.old (S.told source.old).lines }
-    requires ready { IsReady old.old from }
+    requires opens { IsOpenAt (S.told source.old).lines around from }
+    requires ready { IsSet (S.told source.old).lines around.limit old.old from }
     ensures fills { IfOk result (λ l. Fills (S.told source.old).lines around from (or_nothing l.tree.root) l.stop.at) }
     ensures stops { IfOk result (λ l. IsStop (S.told source.old).lines around (S.told source.new) old.new l.stop) }
-    ensures went { Went (S.told source.old) steps.old old.old (S.told source.new) steps.new old.new }
+    ensures went { Went around.limit (S.told source.old) steps.old old.old (S.told source.new) steps.new old.new }
 {
     let mut nodes = Vec::new(alloc);
     let mut place = from;
@@ -110,9 +112,10 @@ fn next_at<S: MarkSource, M: Ledger>(
     requires place { IsIn (S.told source.old).lines around place }
     requires stands { StandsAt (S.told source.old) place }
     requires since { IsSince around.limit old.old (S.told source.old).lines }
-    requires ready { IsReady old.old place }
+    requires opens { IsOpenAt (S.told source.old).lines around place }
+    requires ready { IsSet (S.told source.old).lines around.limit old.old place }
     ensures next { IfOk result (λ n. IsNext (S.told source.old).lines around place (S.told source.new) old.new n) }
-    ensures went { Went (S.told source.old) steps.old old.old (S.told source.new) steps.new old.new }
+    ensures went { Went around.limit (S.told source.old) steps.old old.old (S.told source.new) steps.new old.new }
 {
     match node_at(old, place, around) {
         Some(node) => {
@@ -174,9 +177,11 @@ fn made_at<S: MarkSource, M: Ledger>(
     requires place { IsIn (S.told source.old).lines around place }
     requires stands { StandsAt (S.told source.old) place }
     requires since { IsSince around.limit old.old (S.told source.old).lines }
-    requires ready { IsReady old.old place }
+    requires opens { IsOpenAt (S.told source.old).lines around place }
+    requires ready { IsSet (S.told source.old).lines around.limit old.old place }
+    requires unseen { IsUnseen (S.told source.old).lines around.limit old.old place }
     ensures next { IfOk result (λ n. IsNext (S.told source.old).lines around place (S.told source.new) old.new n) }
-    ensures went { Went (S.told source.old) steps.old old.old (S.told source.new) steps.new old.new }
+    ensures went { Went around.limit (S.told source.old) steps.old old.old (S.told source.new) steps.new old.new }
 {
     let next = next_mark(around.end, source);
     if less(place, next) {
@@ -224,9 +229,10 @@ fn begun_by<S: MarkSource, M: Ledger>(
     requires place { IsIn (S.told source.old).lines around (start_of mark) }
     requires stands { StandsAt (S.told source.old) (end_of mark) }
     requires since { IsSince around.limit old.old (S.told source.old).lines }
-    requires ready { IsReady old.old (end_of mark) }
+    requires opens { IsOpenAt (S.told source.old).lines around (start_of mark) }
+    requires ready { IsSet (S.told source.old).lines around.limit old.old (end_of mark) }
     ensures next { IfOk result (λ n. IsNext (S.told source.old).lines around (start_of mark) (S.told source.new) old.new n) }
-    ensures went { Went (S.told source.old) steps.old old.old (S.told source.new) steps.new old.new }
+    ensures went { Went around.limit (S.told source.old) steps.old old.old (S.told source.new) steps.new old.new }
 {
     match mark.role {
         Role::Opener(kind) if around.level < around.limit => {
@@ -265,9 +271,10 @@ fn pair_of<S: MarkSource, M: Ledger>(
     requires place { IsIn (S.told source.old).lines around (start_of mark) }
     requires stands { StandsAt (S.told source.old) (end_of mark) }
     requires since { IsSince around.limit old.old (S.told source.old).lines }
-    requires ready { IsReady old.old (end_of mark) }
+    requires opens { IsOpenAt (S.told source.old).lines around (start_of mark) }
+    requires ready { IsSet (S.told source.old).lines around.limit old.old (end_of mark) }
     ensures next { IfOk result (λ n. IsNext (S.told source.old).lines around (start_of mark) (S.told source.new) old.new n) }
-    ensures went { Went (S.told source.old) steps.old old.old (S.told source.new) steps.new old.new }
+    ensures went { Went around.limit (S.told source.old) steps.old old.old (S.told source.new) steps.new old.new }
 {
     let opener = Node::bracket(alloc, size_of(mark), kind)?;
     let inside = list_from(alloc, around.within(kind), end_of(mark), old, source, steps)?;

@@ -3,6 +3,7 @@ ghost use Rattle.bracket_marks.specs.MarkedLine.{marks_in, text_end};
 ghost use Rattle.mark_source.specs.Source.{AreMarked};
 ghost use Rattle.bracket_ast.specs.Shapes.{or_nothing, SoundInside};
 ghost use Rattle.reuse_defs.specs.Whole.{StandsFor};
+ghost use Rattle.reuse_defs.specs.Unsettled.{RisesByFresh};
 ghost use Rattle.reuse_parser.specs.Parsing.{given_after};
 ghost use Rattle.reuse_defs.specs.Since.{Since};
 ghost use Rattle.reuse_parser.specs.Reusing.{AreShort};
@@ -60,7 +61,8 @@ pub fn parse<S: MarkSource, M: Ledger>(
 
 /// The tree of all marks of a source that stands at the text's start, as `parse` makes it, with nodes of an old tree that
 /// the changes since leave as they were. The old tree stands for old marks at this limit, and outside the changes old
-/// and new marks agree. At most one step is taken for each mark, and the source's count rises by at most as many. The
+/// and new marks agree. At most one step is taken for each mark, and the source's count rises by at most as many. Where
+/// each old mark has a row with a partner and no opener of the new text is cut, both rise by at most the fresh marks. The
 /// source's place is then the text's end.
 pub fn reparse<S: MarkSource, M: Ledger>(
     alloc: Global,
@@ -80,6 +82,8 @@ pub fn reparse<S: MarkSource, M: Ledger>(
     ensures lines { (S.told source.new).lines ≡ (S.told source.old).lines }
     ensures few { marks.new ≤ marks.old + length (marks_in (S.told source.old).lines) }
     ensures few_given { (S.told source.new).given ≤ (S.told source.old).given + length (marks_in (S.told source.old).lines) }
+    ensures fresh { RisesByFresh limit (or_nothing old.now.root) changes.now (S.told source.old).lines marks.old marks.new }
+    ensures fresh_given { RisesByFresh limit (or_nothing old.now.root) changes.now (S.told source.old).lines (S.told source.old).given (S.told source.new).given }
 {
     let end = end_of(source);
     let around = Around {

@@ -1,9 +1,10 @@
-use Rattle.std.proofs.Common.{◌≡◌, Some, ap, sym, ◌∙◌}
+use Rattle.std.proofs.Common.{◌≡◌, ℕ, ◌+◌, ◌-◌, Some, subst, arith}
 use Rattle.std.proofs.lemmas.List.{take_more}
 use Rattle.onig_scan.proofs.BoundLaws.{IsBound-One, IsBound-At, IsBound-Back}
 use Rattle.onig_scan.proofs.BoundLaws.{IsBound-Group, IsBound-Choice, IsBound-Ahead, IsBound-Atomic, IsBound-Behind}
-use Rattle.onig_scan.proofs.BoundLaws.{IsBound-never, IsBound-once, AreBounds-push, AreArmBounds-push, of_sum}
+use Rattle.onig_scan.proofs.BoundLaws.{IsBound-times, IsBoundOfTimes-none, IsBoundOfTimes-more, AreBounds-push, AreArmBounds-push, of_sum}
 use Rattle.onig_scan.proofs.BoundLaws.{id_below, arm_below, if_some}
+use Rattle.onig_scan.specs.Bounds.{IsBoundOfTimes}
 use Rattle.onig_scan.proofs.bound.+bounds.Goals as goal
 
 pub visits_of_node-returns-in-One : goal.visits_of_node-returns-in-One
@@ -19,15 +20,6 @@ pub visits_of_node-returns-in-Choice : goal.visits_of_node-returns-in-Choice
 visits_of_node-returns-in-Choice t c =
     rw c.in-Choice.is (if_some _ _ c.visits_of_ids.result (λ n are. IsBound-Choice _ _ _ n are)
     (rw c.as_slice.ensures at c.visits_of_ids.ensures))
-
-pub visits_of_node-returns-in-Some-eq0 : goal.visits_of_node-returns-in-Some-eq0
-visits_of_node-returns-in-Some-eq0 t c =
-    let some : c.in-Repeat.most ≡ Some c.in-Some-eq0.field-0 = c.in-Some-eq0.is in
-    let never : c.in-Repeat.most ≡ Some 0 = some ∙ ap Some (sym c.in-Some-eq0.field-0-is)
-    ∙ ap Some c.in-Some-eq0.field-0-test in
-    let node = rw c.in-Repeat.is at c.requires in
-    let few = rw never at node.0 in
-    rw (c.in-Repeat.is, never) (IsBound-never _ _ _ _ _ few)
 
 pub visits_of_node-returns-in_ok-closed-in-Group : goal.visits_of_node-returns-in_ok-closed-in-Group
 visits_of_node-returns-in_ok-closed-in-Group t c =
@@ -47,17 +39,26 @@ visits_of_node-returns-in_ok-inner-in-Atomic t c =
     rw c.in-Atomic.is (of_sum _ _ _ c.checked_add-in-Atomic.result c.checked_add-in-Atomic.ensures
     (IsBound-Atomic _ _ _ _ is))
 
-pub visits_of_node-returns-in_ok-once-in-Some-eq1 : goal.visits_of_node-returns-in_ok-once-in-Some-eq1
-visits_of_node-returns-in_ok-once-in-Some-eq1 t c =
-    let some : c.in-Repeat.most ≡ Some c.in-Some-eq1.field-0 = c.in-Some-eq1.is in
-    let once : c.in-Repeat.most ≡ Some 1 = some ∙ ap Some (sym c.in-Some-eq1.field-0-is)
-    ∙ ap Some c.in-Some-eq1.field-0-test in
+pub visits_of_node-returns-else-most-gt-MOST_TIMES : goal.visits_of_node-returns-else-most-gt-MOST_TIMES
+visits_of_node-returns-else-most-gt-MOST_TIMES t c =
+    let most : c.in-Repeat.most ≡ Some c.in_ok-most-in-Repeat.most = c.in_ok-most-in-Repeat.was in
     let node = rw c.in-Repeat.is at c.requires in
-    let few = rw once at node.0 in
-    let is = rw c.list-in-Some-eq1.ensures.nodes at c.in_ok-once-in-Some-eq1.ensures in
-    rw (c.in-Repeat.is, once)
-    (of_sum _ _ _ c.checked_add-in-Some-eq1-2.result c.checked_add-in-Some-eq1-2.ensures
-    (IsBound-once _ _ _ _ _ _ _ few (c.in_ok-again-in-Some-eq1.ensures).1 is))
+    let few = rw most at node.0 in
+    rw (c.in-Repeat.is, most)
+    (if_some _ _ c.visits_of_times.result (λ n is. IsBound-times _ _ _ _ _ _ n few is) c.visits_of_times.ensures)
+
+pub visits_of_times-returns-then-times-eq0 : goal.visits_of_times-returns-then-times-eq0
+visits_of_times-returns-then-times-eq0 t c = rw c.if-times-eq0.true (IsBoundOfTimes-none _ _ _)
+
+pub visits_of_times-returns : goal.visits_of_times-returns
+visits_of_times-returns t c =
+    let Times : ℕ → ℕ → Type 0 = λ times cost. IsBoundOfTimes c.args.pattern.now.lists c.args.body times c.args.after
+    cost in
+    let all : c.args.times - 1 + 1 ≡ c.args.times = omega (arith, c.if-times-eq0.false) in
+    let is = rw c.list.ensures.nodes at c.in_ok-one.ensures in
+    of_sum _ _ _ c.checked_add-2.result c.checked_add-2.ensures
+    (subst (λ times. Times times (c.in_ok-one.one + c.args.after)) all
+    (IsBoundOfTimes-more _ _ _ _ _ _ _ c.in_ok-others.ensures (c.in_ok-again.ensures).1 is))
 
 pub visits_of_node-returns-in_ok-seen-in-Behind : goal.visits_of_node-returns-in_ok-seen-in-Behind
 visits_of_node-returns-in_ok-seen-in-Behind t c =

@@ -5,7 +5,7 @@ use Rattle.onig_scan.proofs.BoundLaws.{id_below}
 use Rattle.onig_scan.proofs.FrontLaws.{lifted, if_found, copied_more, more_front}
 use Rattle.onig_scan.proofs.FrontLaws.{IsFront-cost, IsFront-cons, IsFront-One, at_front, IsFront-Group}
 use Rattle.onig_scan.proofs.FrontLaws.{IsFront-Choice, IsFront-Ahead, IsFront-Behind, IsFront-wider, AreFronts-wider}
-use Rattle.onig_scan.proofs.FrontLaws.{AreFronts-push, IsFrontOfOwn-some, IsFrontOfOwn-none, IsFrontOfRepeat-some}
+use Rattle.onig_scan.proofs.FrontLaws.{AreFronts-push, IsFrontOfOwn-some, IsFrontOfOwn-none, IsFrontOfBoth, IsFrontOfRepeat-some}
 use Rattle.onig_scan.proofs.FrontLaws.{IsFrontOfRepeat-none}
 use Rattle.onig_scan.proofs.front_of.+fronts.Goals as goal
 
@@ -75,6 +75,13 @@ front_of_own-returns t c =
     let own = rw c.list.ensures.nodes at (rw c.in-Some.is at c.in_ok-inner.ensures) in
     let after : c.args.after.now ≡ Some c.in-Some-after.after = c.in-Some-after.is in
     rw after (lifted _ _ c.joined.result (λ f both. IsFrontOfOwn-none _ _ c.in-Some.inner c.in-Some-after.after f
+    both.0 both.1 both.2 both.3 (rw c.at_end.ensures at own)) c.joined.ensures)
+
+pub front_of_both-returns : goal.front_of_both-returns
+front_of_both-returns t c =
+    let own = rw c.list.ensures.nodes at (rw c.in-Some.is at c.in_ok-inner.ensures) in
+    let after : c.args.after.now ≡ Some c.in-Some-after.after = c.in-Some-after.is in
+    rw after (lifted _ _ c.joined.result (λ f both. IsFrontOfBoth _ _ _ c.in-Some.inner c.in-Some-after.after f
     both.0 both.1 both.2 both.3 (rw c.at_end.ensures at own)) c.joined.ensures)
 
 pub front_of_repeat-returns-then-least-gt0 : goal.front_of_repeat-returns-then-least-gt0

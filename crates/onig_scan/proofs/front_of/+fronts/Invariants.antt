@@ -17,6 +17,9 @@ decreases-front_of_own l = 4 * l.depth + 1
 abbrev pub decreases-front_of_ahead : goal.decreases-front_of_ahead
 decreases-front_of_ahead l = 4 * l.depth + 2
 
+abbrev pub decreases-front_of_both : goal.decreases-front_of_both
+decreases-front_of_both l = 4 * l.depth + 1
+
 abbrev pub decreases-front_of_repeat : goal.decreases-front_of_repeat
 decreases-front_of_repeat l = 4 * l.depth + 1
 

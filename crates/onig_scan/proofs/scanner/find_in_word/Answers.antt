@@ -12,7 +12,7 @@ returns-then-index-entries-clause-missed c =
     let within = bit.within in
     let low = c.loop-left.invariant.low in
     end_on _ _ _ _ _ _ _ _ _ c.if-index-entries.true (omega (arith, c.if-index-entries.true, within, low))
-    (skip_on _ _ c.loop-left.index _ _ _ _ _ _ _ c.args.word c.requires.scalar c.requires.enough c.requires.word low
+    (skip_on _ _ c.loop-left.index _ _ _ _ _ _ _ c.args.word c.requires.enough c.requires.word low
     (omega (arith, within)) bit.zeros c.loop-left.invariant.on)
 
 pub returns-then-is_some-clause-found : goal.returns-then-is_some-clause-found
@@ -20,7 +20,7 @@ returns-then-is_some-clause-found c =
     let bit = lowest_bit c.args.word (c.loop-left.index - c.args.first) c.loop-left.left c.loop-left-test.true
     (omega arith) (omega arith) c.loop-left.invariant.bits in
     let within = bit.within in
-    let on = skip_on _ _ c.loop-left.index _ _ _ _ _ _ _ c.args.word c.requires.scalar c.requires.enough
+    let on = skip_on _ _ c.loop-left.index _ _ _ _ _ _ _ c.args.word c.requires.enough
     c.requires.word c.loop-left.invariant.low (omega (arith, within)) bit.zeros c.loop-left.invariant.on in
     if_decided _ _ c.decided_by-found.result (λ f is. decided_behind _ _ _ _ _ _ _ _ _ f on is)
     c.decided_by-found.ensures.found
@@ -39,7 +39,7 @@ loop-left-preserved c =
     (omega arith) (omega arith) c.loop-left.invariant.bits in
     let within = bit.within in
     let low = c.loop-left.invariant.low in
-    let on = skip_on _ _ c.loop-left.index _ _ _ _ _ _ _ c.args.word c.requires.scalar c.requires.enough
+    let on = skip_on _ _ c.loop-left.index _ _ _ _ _ _ _ c.args.word c.requires.enough
     c.requires.word low (omega (arith, within)) bit.zeros c.loop-left.invariant.on in
     record {
       low = omega (arith, low);
@@ -56,7 +56,7 @@ returns-clause-missed c =
     let Bits : ℕ → Type 0 = λ n. (j : ℕ) → bit_at n j ≡ bit_at c.args.word ((c.loop-left.index - c.args.first) + j) in
     let none : Bits 0 = subst Bits c.loop-left-test.false c.loop-left.invariant.bits in
     let on = skip_on _ _ c.loop-left.index ((c.args.first + 64) - c.loop-left.index) _ _ _ _ _ _ c.args.word
-    c.requires.scalar c.requires.enough c.requires.word low (omega (arith, low, high))
+    c.requires.enough c.requires.word low (omega (arith, low, high))
     (λ j below. sym (none j) ∙ bit_at-zero j) c.loop-left.invariant.on in
     let e : c.loop-left.index + ((c.args.first + 64) - c.loop-left.index) ≡ c.args.first + 64 =
     omega (arith, low, high) in

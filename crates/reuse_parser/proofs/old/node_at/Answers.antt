@@ -12,6 +12,7 @@ use Rattle.reuse_parser.specs.Reusing.{HasRoom}
 use Rattle.reuse_parser.proofs.AheadOf.{up_to_itself}
 use Rattle.reuse_parser.proofs.Moved.{not_is_less, is_less_not}
 use Rattle.reuse_parser.proofs.Starting.{first_in, part_of}
+use Rattle.reuse_parser.proofs.Passed.{none_passes}
 use Rattle.reuse_parser.proofs.old.node_at.Goals as goal
 
 -- the old places of later places lie behind that of a place
@@ -64,3 +65,15 @@ returns-else-is_bare-clause-found c =
       can = found.1.1;
       some = sym c.is_bare.ensures ∙ c.if-is_bare.false;
     }
+
+pub returns-in_err-node-clause-none : goal.returns-in_err-node-clause-none
+returns-in_err-node-clause-none c = λ none.
+    none_passes c.args.old.now.reader.tree c.args.old.now.mapper c.args.around c.args.at c.in_ok-offset.offset
+    c.distance-room.result None (sym c.in_ok-offset.ensures) c.distance-room.ensures
+    (rw c.in_err-node.was at c.longest.ensures.answer) tt
+
+pub returns-then-is_bare-clause-none : goal.returns-then-is_bare-clause-none
+returns-then-is_bare-clause-none c = λ none.
+    none_passes c.args.old.now.reader.tree c.args.old.now.mapper c.args.around c.args.at c.in_ok-offset.offset
+    c.distance-room.result (Some c.in_ok-node.node.now) (sym c.in_ok-offset.ensures) c.distance-room.ensures
+    (rw c.in_ok-node.was at c.longest.ensures.answer) (sym c.is_bare.ensures ∙ c.if-is_bare.true)

@@ -4,19 +4,22 @@ use Rattle.text_pos.specs.Lengths.{plus}
 use Rattle.tree_defs.specs.Shape.{length_of}
 use Rattle.bracket_ast.specs.Shapes.{or_nothing}
 use Rattle.reuse_parser.specs.declared.relist.Stop.{Stop}
-use Rattle.reuse_parser.specs.Parsing.{size_of}
+use Rattle.reuse_parser.specs.Parsing.{start_of, size_of}
 use Rattle.reuse_parser.specs.Reusing.{Fills}
 use Rattle.reuse_parser.specs.Reading.{StandsAt, IsStop, IsNext}
-use Rattle.reuse_parser.specs.Olds.{IsReady, IsSince}
+use Rattle.reuse_parser.specs.Olds.{IsSet, IsSince}
+use Rattle.reuse_parser.specs.Counting.{IsOpenAt, NoneSettled}
 use Rattle.reuse_parser.proofs.AheadOf.{left_to, less_left}
 use Rattle.reuse_parser.proofs.Gathering.{gathered_first}
-use Rattle.reuse_parser.proofs.Going.{went_on, went_none}
+use Rattle.reuse_parser.proofs.Going.{went_on, went_none, went_same, since_on, set_on, calmly_on}
+use Rattle.reuse_parser.proofs.Outside.{none_settled}
+use Rattle.reuse_parser.proofs.OpenAt.{open_within}
 use Rattle.reuse_parser.proofs.Loops.{root_leaves}
 use Rattle.reuse_parser.proofs.Made.{pair_is, left_is}
 use Rattle.reuse_parser.proofs.Stepping.{some_columns, some_size, kind_of_opener, is_opener, cut_next, lone_next, text_next}
 use Rattle.reuse_parser.proofs.Stepping.{IsRead, read, went_read, ended, old_adds, adds_fit, old_next, went_old}
 use Rattle.reuse_parser.proofs.Stepping.{around_within, mark_within, falls_within, closed_next, closer_some, left_next}
-use Rattle.reuse_parser.proofs.Stepping.{going_in, going_since, going_falls, going_fits, going_more, going_runs, last_runs}
+use Rattle.reuse_parser.proofs.Stepping.{going_open, going_set, going_in, going_since, going_falls, going_fits, going_more, going_runs, last_runs}
 use Rattle.reuse_parser.proofs.Stepping.{going_end, going_last, going_stop, both_ok}
 use Rattle.reuse_parser.proofs.relist.+reparsing.Goals as goal
 
@@ -62,8 +65,8 @@ made_at-begun_by-requires g t c κs within =
     let u = g.S.MarkSource.told c.next.new.self in
     let x : IsRead c.args.around c.args.place c.in-Some.mark s u c.args.old.now =
     read c.args.around c.args.place c.next_mark-next.result c.in-Some.mark s u c.args.old.now c.requires.place
-    c.requires.stands c.requires.ready c.next_mark-next.ensures (search rules) c.in-Some.ensures.mark
-    c.in-Some.ensures.place in
+    c.requires.stands c.requires.ready c.requires.unseen c.next_mark-next.ensures (search rules)
+    c.in-Some.ensures.mark c.in-Some.ensures.place in
     let same = ap (λ p. left_to c.args.around.end p) x.starts in (
       omega (arith, c.decreases, same),
       (
@@ -76,7 +79,17 @@ made_at-begun_by-requires g t c κs within =
               x.mark,
               (
                 x.place,
-                (x.stands, (subst (λ l. IsSince c.args.around.limit c.args.old.now l) (sym x.lines) c.requires.since, x.ready)),
+                (
+                  x.stands,
+                  (
+                    subst (λ l. IsSince c.args.around.limit c.args.old.now l) (sym x.lines) c.requires.since,
+                    (
+                      subst (λ l. IsOpenAt l c.args.around (start_of c.in-Some.mark)) (sym x.lines)
+                          (subst (λ p. IsOpenAt s.lines c.args.around p) x.starts c.requires.opens),
+                      x.ready,
+                    ),
+                  ),
+                ),
               ),
             ),
           ),
@@ -90,8 +103,8 @@ made_at-returns-in-Some-clause-next g t c =
     let u = g.S.MarkSource.told c.next.new.self in
     let x : IsRead c.args.around c.args.place c.in-Some.mark s u c.args.old.now =
     read c.args.around c.args.place c.next_mark-next.result c.in-Some.mark s u c.args.old.now c.requires.place
-    c.requires.stands c.requires.ready c.next_mark-next.ensures (search rules) c.in-Some.ensures.mark
-    c.in-Some.ensures.place in
+    c.requires.stands c.requires.ready c.requires.unseen c.next_mark-next.ensures (search rules)
+    c.in-Some.ensures.mark c.in-Some.ensures.place in
     IfOk-weaker c.begun_by.result _ _
     (λ n h. subst (λ l. IsNext l c.args.around c.args.place (g.S.MarkSource.told c.begun_by.new.source)
     c.begun_by.new.old n) x.lines
@@ -102,11 +115,15 @@ pub made_at-returns-in-Some-clause-went : goal.made_at-returns-in-Some-clause-we
 made_at-returns-in-Some-clause-went g t c =
     let s = g.S.MarkSource.told c.args.source.now in
     let u = g.S.MarkSource.told c.next.new.self in
-    went_on s u (g.S.MarkSource.told c.begun_by.new.source) c.args.steps.now c.next.new.marks c.begun_by.new.steps
+    let x : IsRead c.args.around c.args.place c.in-Some.mark s u c.args.old.now =
+    read c.args.around c.args.place c.next_mark-next.result c.in-Some.mark s u c.args.old.now c.requires.place
+    c.requires.stands c.requires.ready c.requires.unseen c.next_mark-next.ensures (search rules)
+    c.in-Some.ensures.mark c.in-Some.ensures.place in
+    went_on c.args.around.limit s u (g.S.MarkSource.told c.begun_by.new.source) c.args.steps.now c.next.new.marks c.begun_by.new.steps
     c.args.old.now c.args.old.now c.begun_by.new.old
-    (went_read c.in-Some.mark s u c.args.steps.now c.next.new.marks c.args.old.now c.args.old.now
+    (went_read c.args.around.limit c.in-Some.mark s u c.args.steps.now c.next.new.marks c.args.old.now c.args.old.now
     c.requires.place.marked c.in-Some.ensures.mark c.in-Some.ensures.place c.in-Some.ensures.step
-    (record { tree = refl; changes = refl })) c.begun_by.ensures.went
+    (record { tree = refl; changes = refl }) x.unsettled) c.begun_by.ensures.went
 
 pub made_at-returns-in-None-clause-next : goal.made_at-returns-in-None-clause-next
 made_at-returns-in-None-clause-next g t c = (
@@ -133,7 +150,7 @@ next_at-taken-requires-clause-fits g t c =
 pub next_at-returns-in_err-node-in-Some-clause-went : goal.next_at-returns-in_err-node-in-Some-clause-went
 next_at-returns-in_err-node-in-Some-clause-went g t c =
     let s = g.S.MarkSource.told c.args.source.now in
-    went_old c.args.around c.args.place c.in-Some.node.now (plus c.args.place (length_of c.in-Some.node.now)) s
+    went_old c.args.around.limit c.args.around c.args.place c.in-Some.node.now (plus c.args.place (length_of c.in-Some.node.now)) s
     (g.S.MarkSource.told c.taken.new.source) c.args.steps.now c.args.old.now c.node_at.new.old
     (old_adds s.lines c.args.around c.args.place c.args.old.now c.in-Some.node.now c.requires.place c.requires.since
     (omega arith, omega arith) (omega arith) c.in-Some.ensures.found) c.requires.stands c.taken.ensures.source
@@ -143,19 +160,67 @@ pub next_at-returns-in_ok-node-in-Some-clause-next : goal.next_at-returns-in_ok-
 next_at-returns-in_ok-node-in-Some-clause-next g t c =
     let s = g.S.MarkSource.told c.args.source.now in
     old_next c.args.around c.args.place c.in_ok-node-in-Some.node c.in-Some.node.now c.in_ok-node-in-Some.behind s
-    (g.S.MarkSource.told c.taken.new.source) c.node_at.new.old
+    (g.S.MarkSource.told c.taken.new.source) c.args.old.now c.node_at.new.old
     (old_adds s.lines c.args.around c.args.place c.args.old.now c.in-Some.node.now c.requires.place c.requires.since
-    (omega arith, omega arith) (omega arith) c.in-Some.ensures.found) c.node_at.ensures.ready
+    (omega arith, omega arith) (omega arith) c.in-Some.ensures.found) c.node_at.ensures.same c.in-Some.ensures.found
+    c.requires.ready c.node_at.ensures.ready
     c.in_ok-node-in-Some.ensures.node c.in_ok-node-in-Some.ensures.behind c.in_ok-node-in-Some.ensures.source
 
 pub next_at-returns-in_ok-node-in-Some-clause-went : goal.next_at-returns-in_ok-node-in-Some-clause-went
 next_at-returns-in_ok-node-in-Some-clause-went g t c =
     let s = g.S.MarkSource.told c.args.source.now in
-    went_old c.args.around c.args.place c.in-Some.node.now (plus c.args.place (length_of c.in-Some.node.now)) s
+    went_old c.args.around.limit c.args.around c.args.place c.in-Some.node.now (plus c.args.place (length_of c.in-Some.node.now)) s
     (g.S.MarkSource.told c.taken.new.source) c.args.steps.now c.args.old.now c.node_at.new.old
     (old_adds s.lines c.args.around c.args.place c.args.old.now c.in-Some.node.now c.requires.place c.requires.since
     (omega arith, omega arith) (omega arith) c.in-Some.ensures.found) c.requires.stands c.taken.ensures.source
     c.node_at.ensures.same
+
+-- ---- where no node is taken
+pub next_at-made_at-requires : goal.next_at-made_at-requires
+next_at-made_at-requires g t c κs within =
+    let s = g.S.MarkSource.told c.args.source.now in
+    let set = c.requires.ready in (
+      omega (arith, c.decreases),
+      (
+        within.0,
+        (
+          within.1,
+          (
+            c.requires.around,
+            (
+              c.requires.place,
+              (
+                c.requires.stands,
+                (
+                  since_on c.args.around.limit c.args.old.now c.node_at.new.old s.lines s.lines c.requires.since
+                      c.node_at.ensures.same refl,
+                  (
+                    c.requires.opens,
+                    (
+                      set_on c.args.around.limit c.args.old.now c.node_at.new.old s.lines s.lines c.args.place
+                          c.node_at.ensures.same refl c.node_at.ensures.ready c.requires.ready,
+                      calmly_on NoneSettled c.args.around.limit c.args.old.now c.node_at.new.old s.lines s.lines
+                          c.args.place c.node_at.ensures.same refl
+                          (λ calm. none_settled s.lines c.args.around c.args.old.now.reader.tree
+                          c.args.old.now.mapper calm c.args.place c.requires.place c.requires.opens
+                          c.requires.around.room (set.outside calm) (c.node_at.ensures.none c.in-None.is)),
+                    ),
+                  ),
+                ),
+              ),
+            ),
+          ),
+        ),
+      ),
+    )
+
+pub next_at-returns-in-None-clause-went : goal.next_at-returns-in-None-clause-went
+next_at-returns-in-None-clause-went g t c =
+    let s = g.S.MarkSource.told c.args.source.now in
+    went_on c.args.around.limit s s (g.S.MarkSource.told c.made_at.new.source) c.args.steps.now c.args.steps.now
+    c.made_at.new.steps c.args.old.now c.node_at.new.old c.made_at.new.old
+    (went_same c.args.around.limit s c.args.steps.now c.args.old.now c.node_at.new.old c.node_at.ensures.same)
+    c.made_at.ensures.went
 
 -- ---- a pair
 pub pair_of-size_of-requires : goal.pair_of-size_of-requires
@@ -189,7 +254,13 @@ pair_of-list_from-requires g t c κs within =
                 subst (λ p. StandsAt s p) (sym ends) c.requires.stands,
                 (
                   subst (λ n. IsSince n c.args.old.now s.lines) (sym c.within.ensures.limit) c.requires.since,
-                  subst (λ p. IsReady c.args.old.now p) (sym ends) c.requires.ready,
+                  (
+                    subst (λ p. IsOpenAt s.lines c.within.result p) (sym ends)
+                        (open_within s.lines c.args.around c.within.result c.args.mark c.args.kind c.requires.opens
+                        c.requires.mark c.requires.opener c.requires.room c.within.ensures),
+                    subst (λ n. IsSet s.lines n c.args.old.now c.end_of.result) (sym c.within.ensures.limit)
+                        (subst (λ p. IsSet s.lines c.args.around.limit c.args.old.now p) (sym ends) c.requires.ready),
+                  ),
                 ),
               ),
             ),
@@ -242,7 +313,7 @@ list_from-loop-nodes-init g t c = record {
       (gathered_first _ c.args.around c.args.from c.requires.place c.requires.around.room);
   stands = c.requires.stands;
   ready = c.requires.ready;
-  went = went_none _ _ _;
+  went = went_none _ _ _ _;
 }
 
 pub list_from-next_at-requires : goal.list_from-next_at-requires
@@ -268,7 +339,14 @@ list_from-next_at-requires g t c κs within =
                   going_since c.args.around c.args.from (g.S.MarkSource.told c.args.source.now) c.args.steps.now c.args.old.now
                       c.loop-nodes.nodes.items c.loop-nodes.place (g.S.MarkSource.told c.loop-nodes.source) c.loop-nodes.steps
                       c.loop-nodes.old i c.requires.since,
-                  i.ready,
+                  (
+                    going_open c.args.around c.args.from (g.S.MarkSource.told c.args.source.now) c.args.steps.now
+                        c.args.old.now c.loop-nodes.nodes.items c.loop-nodes.place
+                        (g.S.MarkSource.told c.loop-nodes.source) c.loop-nodes.steps c.loop-nodes.old i c.requires.opens,
+                    going_set c.args.around c.args.from (g.S.MarkSource.told c.args.source.now) c.args.steps.now
+                        c.args.old.now c.loop-nodes.nodes.items c.loop-nodes.place
+                        (g.S.MarkSource.told c.loop-nodes.source) c.loop-nodes.steps c.loop-nodes.old i,
+                  ),
                 ),
               ),
             ),
@@ -353,3 +431,34 @@ list_from-returns-in-End-clause-stops g t c =
     (going_stop c.args.around c.args.from (g.S.MarkSource.told c.args.source.now) c.args.steps.now c.args.old.now
     c.loop-nodes.nodes.items c.loop-nodes.place (g.S.MarkSource.told c.loop-nodes.source) c.loop-nodes.steps
     c.loop-nodes.old c.loop-nodes.invariant _ _ _ n.1)) c.tree_up_to-in-End.ensures.stop
+
+-- ---- what was read
+pub list_from-returns-in_err-node-clause-went : goal.list_from-returns-in_err-node-clause-went
+list_from-returns-in_err-node-clause-went g t c =
+    went_on c.args.around.limit (g.S.MarkSource.told c.args.source.now) (g.S.MarkSource.told c.loop-nodes.source)
+    (g.S.MarkSource.told c.next_at.new.source) c.args.steps.now c.loop-nodes.steps c.next_at.new.steps
+    c.args.old.now c.loop-nodes.old c.next_at.new.old c.loop-nodes.invariant.went c.next_at.ensures.went
+
+pub list_from-returns-in_err-push-in-Node-clause-went : goal.list_from-returns-in_err-push-in-Node-clause-went
+list_from-returns-in_err-push-in-Node-clause-went g t c =
+    went_on c.args.around.limit (g.S.MarkSource.told c.args.source.now) (g.S.MarkSource.told c.loop-nodes.source)
+    (g.S.MarkSource.told c.next_at.new.source) c.args.steps.now c.loop-nodes.steps c.next_at.new.steps
+    c.args.old.now c.loop-nodes.old c.next_at.new.old c.loop-nodes.invariant.went c.next_at.ensures.went
+
+pub list_from-returns-in_err-push-in-Last-clause-went : goal.list_from-returns-in_err-push-in-Last-clause-went
+list_from-returns-in_err-push-in-Last-clause-went g t c =
+    went_on c.args.around.limit (g.S.MarkSource.told c.args.source.now) (g.S.MarkSource.told c.loop-nodes.source)
+    (g.S.MarkSource.told c.next_at.new.source) c.args.steps.now c.loop-nodes.steps c.next_at.new.steps
+    c.args.old.now c.loop-nodes.old c.next_at.new.old c.loop-nodes.invariant.went c.next_at.ensures.went
+
+pub list_from-returns-in-Last-clause-went : goal.list_from-returns-in-Last-clause-went
+list_from-returns-in-Last-clause-went g t c =
+    went_on c.args.around.limit (g.S.MarkSource.told c.args.source.now) (g.S.MarkSource.told c.loop-nodes.source)
+    (g.S.MarkSource.told c.next_at.new.source) c.args.steps.now c.loop-nodes.steps c.next_at.new.steps
+    c.args.old.now c.loop-nodes.old c.next_at.new.old c.loop-nodes.invariant.went c.next_at.ensures.went
+
+pub list_from-returns-in-End-clause-went : goal.list_from-returns-in-End-clause-went
+list_from-returns-in-End-clause-went g t c =
+    went_on c.args.around.limit (g.S.MarkSource.told c.args.source.now) (g.S.MarkSource.told c.loop-nodes.source)
+    (g.S.MarkSource.told c.next_at.new.source) c.args.steps.now c.loop-nodes.steps c.next_at.new.steps
+    c.args.old.now c.loop-nodes.old c.next_at.new.old c.loop-nodes.invariant.went c.next_at.ensures.went

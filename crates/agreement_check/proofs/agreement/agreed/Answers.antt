@@ -1,0 +1,14 @@
+use Rattle.std.proofs.Common.{◌≡◌, rules, sym, subst}
+use Rattle.agreement_check.specs.Checks.{AreAgreed, MayBeReused}
+use Rattle.agreement_check.proofs.Agreeing.{agrees, may_be_reused}
+use Rattle.agreement_check.proofs.agreement.agreed.Goals as goal
+
+pub returns-then-branch-clause-agreed : goal.returns-then-branch-clause-agreed
+returns-then-branch-clause-agreed c = record { order = search rules; agree = agrees _ _ _ (search rules) (search rules) }
+
+pub returns-then-branch-clause-reuse : goal.returns-then-branch-clause-reuse
+returns-then-branch-clause-reuse c =
+    let spans : c.in-Some.laid.spans ≡ c.args.changes.now = search rules in
+    let are : AreAgreed c.args.changes.now c.args.old.now c.args.new.now = record { order = search rules; agree = agrees _ _ _ (search rules) (search rules) } in
+    subst (λ cs. MayBeReused cs c.args.old.now c.args.new.now) (sym spans)
+    (may_be_reused c.args.changes.now c.args.old.now c.args.new.now c.requires.marked c.requires.old are)
