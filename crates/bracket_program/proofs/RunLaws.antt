@@ -613,3 +613,8 @@ module _ (contents : List ℕ → Told) (faults faults' : List ℕ → ℕ) (bef
   pub run-at_files : (w : Option Request) (r : Request) (s : Status) → w ≡ Some r
       → IsOpenEnd contents faults faults' r s → after ≡ before → Runs w s
   run-at_files w r s e f same = subst (λ w. Runs w s) (sym e) (unopened_run r s f same)
+
+  -- memory was wanting before any file was opened
+  pub run-wanting : (w : Option Request) → SameCounts faults faults' → after ≡ before → Runs w status.Memory
+  run-wanting None same e = (same, e)
+  run-wanting (Some r) same e = (same, inl e)

@@ -130,13 +130,18 @@ fn run_to_end<F: Files, S: Source, K: Sink>(
         (request_of (map string_bytes words.now)) result }
     ensures contents { (q : List ℕ) → F.contents files.new q ≡ F.contents files.old q }
 {
-    match read_words(alloc, words) {
-        Ok(Some(request)) => match open_document(alloc, files, &request) {
-            Ok(mut document) => answer(alloc, request.subject, &mut document, script, sink),
-            Err(status) => status,
-        },
-        Ok(None) => Status::Words,
-        Err(_) => Status::Memory,
+    let asked = match read_words(alloc, words) {
+        Err(_) => {
+            return Status::Memory;
+        }
+        Ok(asked) => asked,
+    };
+    let Some(request) = asked else {
+        return Status::Words;
+    };
+    match open_document(alloc, files, &request) {
+        Ok(mut document) => answer(alloc, request.subject, &mut document, script, sink),
+        Err(status) => status,
     }
 }
 
