@@ -228,17 +228,22 @@ module _ (contents : List ℕ → Told) (faults faults' : List ℕ → ℕ) (bef
   run-done None s run e = tt
   run-done (Some r) s run e = answers_all r (subst (Runs (Some r)) e run).1
 
-  pub run-words : (w : Option Request) (s : Status) → Runs w s → (s ≡ status.Words) ↔ (w ≡ None)
-  run-words None status.Words run = (λ _. refl, λ _. refl)
-  run-words None status.Done run = absurd run
-  run-words None status.TextFile run = absurd run
-  run-words None status.GrammarFile run = absurd run
-  run-words None status.BracketFile run = absurd run
-  run-words None status.ReadFault run = absurd run
-  run-words None status.WriteFault run = absurd run
-  run-words None status.ScriptFull run = absurd run
-  run-words None status.Memory run = absurd run
-  run-words (Some r) s run = (λ e. absurd (subst (Runs (Some r)) e run), λ e. cc)
+  pub run-words : (w : Option Request) (s : Status) → Runs w s → s ≡ status.Words → w ≡ None
+  run-words None s run e = refl
+  run-words (Some r) s run e = absurd (subst (Runs (Some r)) e run)
+
+  pub run-no_words : (w : Option Request) (s : Status) → Runs w s → w ≡ None
+      → ((s ≡ status.Words) ⊎ (s ≡ status.Memory)) × IsUntouched before after
+  run-no_words None status.Words run e = (inl refl, same_outside run.1)
+  run-no_words None status.Done run e = absurd run
+  run-no_words None status.TextFile run e = absurd run
+  run-no_words None status.GrammarFile run e = absurd run
+  run-no_words None status.BracketFile run e = absurd run
+  run-no_words None status.ReadFault run e = absurd run
+  run-no_words None status.WriteFault run e = absurd run
+  run-no_words None status.ScriptFull run e = absurd run
+  run-no_words None status.Memory run e = (inr refl, same_outside run.1)
+  run-no_words (Some r) s run e = cc
 
   refused : (r : Request) (s : Status) (k : FileKind) → Runs (Some r) s → s ≡ refusal_of k
       → RefusedAt contents k (files_of r) × SameCounts faults faults' × (after ≡ before)
@@ -317,7 +322,7 @@ module _ (contents : List ℕ → Told) (faults faults' : List ℕ → ℕ) (bef
   run-files None status.ReadFault run n = absurd run
   run-files None status.WriteFault run n = absurd run
   run-files None status.ScriptFull run n = absurd run
-  run-files None status.Memory run n = absurd run
+  run-files None status.Memory run n = run.0
   run-files (Some r) status.Words run n = absurd run
   run-files (Some r) status.TextFile run n = run.1
   run-files (Some r) status.GrammarFile run n = run.1
@@ -370,7 +375,7 @@ module _ (contents : List ℕ → Told) (faults faults' : List ℕ → ℕ) (bef
   run-script_rise None status.ReadFault run h = absurd run
   run-script_rise None status.WriteFault run h = absurd run
   run-script_rise None status.ScriptFull run h = absurd run
-  run-script_rise None status.Memory run h = absurd run
+  run-script_rise None status.Memory run h = absurd (same_reads run.1 h)
   run-script_rise (Some r) status.ReadFault run h = refl
   run-script_rise (Some r) status.Words run h = absurd run
   run-script_rise (Some r) status.TextFile run h = absurd (same_reads run.2 h)
@@ -394,7 +399,7 @@ module _ (contents : List ℕ → Told) (faults faults' : List ℕ → ℕ) (bef
   run-sink_rise None status.ReadFault run h = absurd run
   run-sink_rise None status.WriteFault run h = absurd run
   run-sink_rise None status.ScriptFull run h = absurd run
-  run-sink_rise None status.Memory run h = absurd run
+  run-sink_rise None status.Memory run h = absurd (same_writes run.1 h)
   run-sink_rise (Some r) status.WriteFault run h = refl
   run-sink_rise (Some r) status.Words run h = absurd run
   run-sink_rise (Some r) status.TextFile run h = absurd (same_writes run.2 h)
@@ -608,3 +613,8 @@ module _ (contents : List ℕ → Told) (faults faults' : List ℕ → ℕ) (bef
   pub run-at_files : (w : Option Request) (r : Request) (s : Status) → w ≡ Some r
       → IsOpenEnd contents faults faults' r s → after ≡ before → Runs w s
   run-at_files w r s e f same = subst (λ w. Runs w s) (sym e) (unopened_run r s f same)
+
+  -- memory was wanting before any file was opened
+  pub run-wanting : (w : Option Request) → SameCounts faults faults' → after ≡ before → Runs w status.Memory
+  run-wanting None same e = (same, e)
+  run-wanting (Some r) same e = (same, inl e)

@@ -100,6 +100,7 @@ pub record Answered (r : Request) (contents : List ℕ → Told) (P : Inputs →
 -- What a run for these words comes to. Until all files are open nothing is written, and no script is read.
 abbrev pub IsRun : (List ℕ → Told) → (List ℕ → ℕ) → (List ℕ → ℕ) → Outside → Outside → Option Request → Status → Type 0
 IsRun contents faults faults' before after None status.Words = SameCounts faults faults' × (after ≡ before)
+IsRun contents faults faults' before after None status.Memory = SameCounts faults faults' × (after ≡ before)
 IsRun contents faults faults' before after None _ = ⊥
 IsRun contents faults faults' before after (Some r) status.Words = ⊥
 IsRun contents faults faults' before after (Some r) status.TextFile =

@@ -1,4 +1,4 @@
-ghost use Rattle.std.specs.Prelude.{◌≡◌, ◌⊎◌, ◌↔◌, ◌<◌, ◌≤◌, ℕ, List, map, length, None, Some, IfSome, string_bytes};
+ghost use Rattle.std.specs.Prelude.{◌≡◌, ◌⊎◌, ◌<◌, ◌≤◌, ℕ, List, map, length, None, Some, IfSome, string_bytes};
 ghost use Rattle.piece_io.specs.Told.{risen};
 ghost use Rattle.session_defs.specs.declared.file_kind.FileKind.{FileKind};
 ghost use Rattle.session_defs.specs.Words.{request_of};
@@ -48,7 +48,10 @@ pub fn run<F: Files, S: Source, K: Sink, L: Ledger, M: Ledger>(
         (outside (S.left script.new) (K.held sink.new) (S.faults script.new) (K.faults sink.new))) }
 
     // What each other status comes from, and what was written then.
-    ensures words { (result ≡ Status.Words) ↔ (request_of (map string_bytes words.now) ≡ None) }
+    ensures words { result ≡ Status.Words → request_of (map string_bytes words.now) ≡ None }
+    ensures no_words { request_of (map string_bytes words.now) ≡ None → ((result ≡ Status.Words) ⊎ (result ≡ Status.Memory)) × IsUntouched
+        (outside (S.left script.old) (K.held sink.old) (S.faults script.old) (K.faults sink.old))
+        (outside (S.left script.new) (K.held sink.new) (S.faults script.new) (K.faults sink.new)) }
     ensures refused { (kind : FileKind) → result ≡ refusal_of kind → IfSome (request_of (map string_bytes words.now)) (λ r.
         RefusedAt (F.contents files.old) kind (files_of r)) }
     ensures read_fault { result ≡ Status.ReadFault → IfSome (request_of (map string_bytes words.now)) (λ r.
@@ -127,7 +130,13 @@ fn run_to_end<F: Files, S: Source, K: Sink>(
         (request_of (map string_bytes words.now)) result }
     ensures contents { (q : List ℕ) → F.contents files.new q ≡ F.contents files.old q }
 {
-    let Some(request) = read_words(words) else {
+    let asked = match read_words(alloc, words) {
+        Err(_) => {
+            return Status::Memory;
+        }
+        Ok(asked) => asked,
+    };
+    let Some(request) = asked else {
         return Status::Words;
     };
     match open_document(alloc, files, &request) {

@@ -1,125 +1,20 @@
 -- What words say, one after the other.
-use Rattle.std.proofs.Common.{◌≡◌, ◌≤◌, ◌-◌, List, [], ◌∷◌, length, map, get_or, take, drop, sym, ap, subst, ◌∙◌, arith}
+use Rattle.std.proofs.Common.{◌≡◌, ◌≤◌, List, [], ◌∷◌, length, drop, sym, ap, subst, ◌∙◌, arith}
 use Rattle.std.proofs.Common.{Bool, true, false, ◌&&◌, refl}
-use Rattle.std.specs.Prelude.{ℕ, Option, Some, None, String, string_bytes, option_and_then, option_map, nat_le, nat_lt}
-use Rattle.std.specs.Prelude.{if◌then◌else◌, codes, IfSome}
-use Rattle.std.specs.Str.{bytes_eq}
-use Rattle.std.proofs.Math.Seq.{take-length}
+use Rattle.std.specs.Prelude.{ℕ, Option, Some, None, option_and_then, option_map, nat_le, nat_lt}
+use Rattle.std.specs.Prelude.{if◌then◌else◌, IfSome}
 use Rattle.std.proofs.lemmas.Bool.Decides.{nat_tests}
-use Rattle.std.specs.declared.alloc.Global.{Global}
 use Rattle.text_pos.specs.declared.limits.Limits.{Limits}
 use Rattle.session_defs.specs.declared.limits.TheConstants.{USUAL_NESTING, LEAST_NESTING, MOST_NESTING}
 use Rattle.session_defs.specs.declared.limits.TheConstants.{USUAL_BUDGET, LEAST_BUDGET, MOST_BUDGET}
 use Rattle.session_defs.specs.declared.limits.TheConstants.{USUAL_LONG, LEAST_LONG, MOST_LONG}
 use Rattle.session_defs.specs.declared.limits.TheConstants.{USUAL_TAB, LEAST_TAB, WIDEST_TAB}
-use Rattle.session_defs.specs.Words.{Subject, Request, Options, no_options, asked_for, request_of, request_with, with_option}
+use Rattle.session_defs.specs.Words.{Subject, Request, Options, no_options, asked_for, request_of, request_with}
 use Rattle.session_defs.specs.Words.{text_file, generated, made_of, subject_of}
 use Rattle.generator_defs.specs.declared.TheConstants.{MOST_GENERATED_LINES}
 use Rattle.command_line.specs.Subjects.{IsInRange}
-use Rattle.session_defs.specs.Words.{is_name_or_none, is_number, is_plain, is_within, limits_in, number_or, value_of}
-use Rattle.session_defs.specs.Words.{parted, plain_words, said, with_text, with_value, with_value_at_last}
-
-abbrev texts : List (String Global) → List (List ℕ)
-texts words = map string_bytes words
-
--- what is behind the first word
-rest_is : (a : String Global) (more : List (String Global)) → take (length (a ∷ more) - 1) (drop 1 (a ∷ more)) ≡ more
-rest_is a more =
-    let same : length (a ∷ more) - 1 ≡ length more = omega arith in ap (λ n. take n more) same ∙ take-length more
-
--- ---- one word, or two
-
-said-plain : (given next : Options) (word : List ℕ) (words : List (List ℕ)) → false ≡ bytes_eq word (codes "--")
-    → true ≡ is_plain word → Some next ≡ with_text given word → said given (word ∷ words) ≡ said next words
-said-plain given next word [] d p n =
-    ap (λ b. if b then Some given else (if is_plain word then with_text given word else
-    with_value_at_last given (parted word))) (sym d)
-    ∙ (ap (λ b. if b then with_text given word else with_value_at_last given (parted word)) (sym p) ∙ sym n)
-said-plain given next word (v ∷ words) d p n =
-    let value = with_value given word v (parted word) (λ g. said g (v ∷ words)) (λ g. said g words) in
-    let text = option_and_then (λ g. said g (v ∷ words)) (with_text given word) in
-    ap (λ b. if b then plain_words given (v ∷ words) else (if is_plain word then text else value)) (sym d)
-    ∙ (ap (λ b. if b then text else value) (sym p) ∙ ap (option_and_then (λ g. said g (v ∷ words))) (sym n))
-
-said-equals : (given next : Options) (word option value : List ℕ) (words : List (List ℕ))
-    → false ≡ bytes_eq word (codes "--") → false ≡ is_plain word → Some (option, value) ≡ parted word
-    → Some next ≡ with_option given option value → said given (word ∷ words) ≡ said next words
-said-equals given next word option value [] d p e n =
-    ap (λ b. if b then Some given else (if is_plain word then with_text given word else
-    with_value_at_last given (parted word))) (sym d)
-    ∙ (ap (λ b. if b then with_text given word else with_value_at_last given (parted word)) (sym p)
-    ∙ (ap (with_value_at_last given) (sym e) ∙ sym n))
-said-equals given next word option value (v ∷ words) d p e n =
-    let behind = λ (parts : Option (List ℕ × List ℕ)). with_value given word v parts (λ g. said g (v ∷ words)) (λ g. said g words) in
-    let text = option_and_then (λ g. said g (v ∷ words)) (with_text given word) in
-    ap (λ b. if b then plain_words given (v ∷ words) else (if is_plain word then text else behind (parted word))) (sym d)
-    ∙ (ap (λ b. if b then text else behind (parted word)) (sym p)
-    ∙ (ap behind (sym e) ∙ ap (option_and_then (λ g. said g (v ∷ words))) (sym n)))
-
-guarded : (is : Bool) (given : Option Options) (next : Options) (behind : Options → Option Options)
-    → Some next ≡ (if is then given else None) → (if is then option_and_then behind given else None) ≡ behind next
-guarded true given next behind n = ap (option_and_then behind) (sym n)
-guarded false given next behind n = cc
-
-said-next : (given next : Options) (word v : List ℕ) (words : List (List ℕ)) → false ≡ bytes_eq word (codes "--")
-    → false ≡ is_plain word → None ≡ parted word → Some next ≡ (if is_plain v then with_option given word v else None)
-    → said given (word ∷ v ∷ words) ≡ said next words
-said-next given next word v words d p e n =
-    let behind = λ (parts : Option (List ℕ × List ℕ)). with_value given word v parts (λ g. said g (v ∷ words)) (λ g. said g words) in
-    let text = option_and_then (λ g. said g (v ∷ words)) (with_text given word) in
-    ap (λ b. if b then plain_words given (v ∷ words) else (if is_plain word then text else behind (parted word))) (sym d)
-    ∙ (ap (λ b. if b then text else behind (parted word)) (sym p)
-    ∙ (ap behind (sym e) ∙ guarded (is_plain v) (with_option given word v) next (λ g. said g words) n))
-
--- ---- the words that are left, as code holds them
-
-pub step_plain : (left : List (String Global)) (word : String Global) (text : List ℕ) (given next : Options)
-    (all : Option Options) → 1 ≤ length left → word ≡ get_or left 0 word → text ≡ string_bytes word
-    → false ≡ bytes_eq text (codes "--") → true ≡ is_plain text → Some next ≡ with_text given text
-    → said given (texts left) ≡ all → said next (texts (take (length left - 1) (drop 1 left))) ≡ all
-step_plain [] word text given next all h w t d p n e = absurd (omega arith)
-step_plain (a ∷ more) word text given next all h w t d p n e =
-    ap (λ ws. said next (texts ws)) (rest_is a more)
-    ∙ (sym (said-plain given next text (texts more) d p n)
-    ∙ (ap (λ k. said given (k ∷ texts more)) (t ∙ ap string_bytes w) ∙ e))
-
-pub step_equals : (left : List (String Global)) (word : String Global) (text option value : List ℕ)
-    (given next : Options) (all : Option Options) → 1 ≤ length left → word ≡ get_or left 0 word
-    → text ≡ string_bytes word → false ≡ bytes_eq text (codes "--") → false ≡ is_plain text
-    → Some (option, value) ≡ parted text → Some next ≡ with_option given option value
-    → said given (texts left) ≡ all → said next (texts (take (length left - 1) (drop 1 left))) ≡ all
-step_equals [] word text option value given next all h w t d p o n e = absurd (omega arith)
-step_equals (a ∷ more) word text option value given next all h w t d p o n e =
-    ap (λ ws. said next (texts ws)) (rest_is a more)
-    ∙ (sym (said-equals given next text option value (texts more) d p o n)
-    ∙ (ap (λ k. said given (k ∷ texts more)) (t ∙ ap string_bytes w) ∙ e))
-
-step_next_by : (a : String Global) (more behind : List (String Global)) (value : String Global)
-    (text word : List ℕ) (given next : Options) (all : Option Options) → behind ≡ more → 1 ≤ length behind
-    → value ≡ get_or behind 0 value → word ≡ string_bytes value → text ≡ string_bytes a
-    → false ≡ bytes_eq text (codes "--") → false ≡ is_plain text → None ≡ parted text
-    → Some next ≡ (if is_plain word then with_option given text word else None)
-    → said given (texts (a ∷ more)) ≡ all → said next (texts (take (length behind - 1) (drop 1 behind))) ≡ all
-step_next_by a more [] value text word given next all same h v k t d p o n e = absurd (omega arith)
-step_next_by a more (b ∷ rest) value text word given next all same h v k t d p o n e =
-    ap (λ ws. said next (texts ws)) (rest_is b rest)
-    ∙ (sym (said-next given next text word (texts rest) d p o n)
-    ∙ (ap (λ x. said given (x ∷ word ∷ texts rest)) t
-    ∙ (ap (λ x. said given (string_bytes a ∷ x ∷ texts rest)) (k ∙ ap string_bytes v)
-    ∙ (ap (λ ws. said given (texts (a ∷ ws))) same ∙ e))))
-
-pub step_next : (left : List (String Global)) (first value : String Global) (text word : List ℕ)
-    (given next : Options) (all : Option Options) → 1 ≤ length left → first ≡ get_or left 0 first
-    → text ≡ string_bytes first → false ≡ bytes_eq text (codes "--") → false ≡ is_plain text → None ≡ parted text
-    → 1 ≤ length (take (length left - 1) (drop 1 left))
-    → value ≡ get_or (take (length left - 1) (drop 1 left)) 0 value → word ≡ string_bytes value
-    → Some next ≡ (if is_plain word then with_option given text word else None) → said given (texts left) ≡ all
-    → said next (texts (take (length (take (length left - 1) (drop 1 left)) - 1)
-    (drop 1 (take (length left - 1) (drop 1 left))))) ≡ all
-step_next [] first value text word given next all h w t d p o k v x n e = absurd (omega arith)
-step_next (a ∷ more) first value text word given next all h w t d p o k v x n e =
-    step_next_by a more (take (length (a ∷ more) - 1) (drop 1 (a ∷ more))) value text word given next all
-    (rest_is a more) k v x (t ∙ ap string_bytes w) d p o n e
+use Rattle.session_defs.specs.Words.{is_name_or_none, is_number, is_within, limits_in, number_or, value_of}
+use Rattle.session_defs.specs.Words.{said}
 
 -- ---- the columns of a tab
 
@@ -251,3 +146,8 @@ pub if_some : (words : List (List ℕ)) (asked : Option Request) (P : Request �
     → ((r : Request) → request_of words ≡ Some r → P r) → asked ≡ request_of words → IfSome asked P
 if_some words None P h e = tt
 if_some words (Some r) P h e = h r (sym e)
+
+-- the words behind the program's name say it
+pub request_said : (words : List (List ℕ)) → request_of words ≡ option_and_then asked_for (said no_options (drop 1 words))
+request_said [] = refl
+request_said (program ∷ words) = refl

@@ -1,12 +1,17 @@
-ghost use Rattle.std.specs.Prelude.{◌≡◌, ◌≤◌, ℕ, map, option_map, string_bytes, Some, None, IfSome, if◌then◌else◌};
-ghost use Rattle.session_defs.specs.Words.{asked_for, request_of, request_with, is_plain, is_digit, is_number, is_name_or_none, is_within, limits_in, no_options, number_or, once, parted, plain_words, said, subject_of, value_of, with_option, with_text};
+ghost use Rattle.std.specs.Prelude.{◌≡◌, ◌≤◌, ℕ, map, drop, option_map, string_bytes, Some, None, IfOk, IfSome, false, if◌then◌else◌};
+ghost use Rattle.session_defs.specs.Words.{asked_for, request_of, request_with, is_digit, is_number, is_name_or_none, is_within, limits_in, no_options, number_or, said, subject_of, value_of};
+ghost use Rattle.clap.specs.Words.{app_of, rule_of};
+ghost use Rattle.command_line.specs.Command.{name_rule, option_rule, options_of, words_app};
 ghost use Rattle.command_line.specs.Subjects.{IsInRange, subject_in};
 
+use clap::error::ErrorKind;
+use clap::{Arg, ArgAction, ArgMatches, Command};
 use generator_defs::MOST_GENERATED_LINES;
 use session_defs::{
     LEAST_BUDGET, LEAST_LONG, LEAST_NESTING, LEAST_TAB, MOST_BUDGET, MOST_DIGITS, MOST_LONG,
     MOST_NESTING, USUAL_BUDGET, USUAL_LONG, USUAL_NESTING, USUAL_TAB, WIDEST_TAB,
 };
+use std::alloc::{AllocError, Global};
 use std::marker::Model;
 use text_pos::Limits;
 
@@ -74,141 +79,85 @@ impl<'a> Model for Options<'a> {
     } };
 }
 
-/// What the words ask for, of which the first is the program's name. None where they are no command line. Its numbers are
-/// in their ranges.
-pub fn read_words(words: &[String]) -> Option<Request<'_>>
-    ensures request { result ≡ request_of (map string_bytes words.now) }
-    ensures some_columns { IfSome result (λ r. LEAST_TAB ≤ r.limits.tab) }
-    ensures few_columns { IfSome result (λ r. r.limits.tab ≤ WIDEST_TAB) }
-    ensures in_range { IfSome result (λ r. IsInRange r.subject) }
+/// What the words ask for, of which the first is the program's name; None where they are no command line. Its numbers are
+/// in their ranges. Reading the words takes memory.
+pub fn read_words(alloc: Global, words: &[String]) -> Result<Option<Request<'_>>, AllocError>
+    ensures request { IfOk result (λ asked. asked ≡ request_of (map string_bytes words.now)) }
+    ensures some_columns { IfOk result (λ asked. IfSome asked (λ r. LEAST_TAB ≤ r.limits.tab)) }
+    ensures few_columns { IfOk result (λ asked. IfSome asked (λ r. r.limits.tab ≤ WIDEST_TAB)) }
+    ensures in_range { IfOk result (λ asked. IfSome asked (λ r. IsInRange r.subject)) }
 {
-    request_of(words)
+    request_of(alloc, words)
 }
 
-fn request_of(words: &[String]) -> Option<Request<'_>>
-    ensures { result ≡ request_of (map string_bytes words.now) }
+fn request_of(alloc: Global, words: &[String]) -> Result<Option<Request<'_>>, AllocError>
+    ensures { IfOk result (λ asked. asked ≡ request_of (map string_bytes words.now)) }
 {
-    match words {
-        [_, said_words @ ..] => asked_for(said(said_words)?),
-        _ => None,
+    match said(alloc, words)? {
+        Some(given) => Ok(asked_for(given)),
+        None => Ok(None),
     }
 }
 
-/// What words say, one after the other.
-fn said(words: &[String]) -> Option<Options<'_>>
-    ensures { result ≡ said no_options (map string_bytes words.now) }
+/// What the words behind the program's name say, one after the other.
+fn said(alloc: Global, words: &[String]) -> Result<Option<Options<'_>>, AllocError>
+    ensures { IfOk result (λ given. given ≡ said no_options (drop 1 (map string_bytes words.now))) }
 {
-    let mut given = no_options();
-    let mut left = words;
-    while let [word, more @ ..] = left {
-        let word = word.as_str();
-        if word == "--" {
-            return plain_words(given, more);
-        }
-        if is_plain(word) {
-            given = with_text(given, word)?;
-            left = more;
-        } else if let Some((option, value)) = parted(word) {
-            given = with_option(given, option, value)?;
-            left = more;
-        } else {
-            let [value, rest @ ..] = more else {
-                return None;
-            };
-            given = with_next(given, word, value.as_str())?;
-            left = rest;
-        }
-    }
-    Some(given)
-}
-
-/// Behind `--` all words are plain.
-fn plain_words<'a>(given: Options<'a>, words: &'a [String]) -> Option<Options<'a>>
-    ensures { result ≡ plain_words given.entry (map string_bytes words.now) }
-{
-    let mut options = given;
-    let mut left = words;
-    while let [word, more @ ..] = left {
-        options = with_text(options, word.as_str())?;
-        left = more;
-    }
-    Some(options)
-}
-
-/// What stands before and behind the first `=` of a word.
-fn parted(word: &str) -> Option<(&str, &str)>
-    ensures { option_map (λ p. (p.0.now, p.1.now)) result ≡ parted word.now }
-{
-    word.split_once('=')
-}
-
-/// The options with one whose value is the next word, which is a plain one.
-fn with_next<'a>(given: Options<'a>, option: &str, value: &'a str) -> Option<Options<'a>>
-    ensures { result ≡ (if is_plain value.now then with_option given.entry option.now value.now else None) }
-{
-    if is_plain(value) {
-        with_option(given, option, value)
-    } else {
-        None
+    let command = words_command(alloc)?;
+    match command.try_get_matches_from(words) {
+        Ok(matches) => Ok(Some(options_of(&matches))),
+        Err(error) => match error.kind() {
+            ErrorKind::OutOfMemory => Err(AllocError),
+            _ => Ok(None),
+        },
     }
 }
 
-/// The options with the name of the text, which has none yet.
-fn with_text<'a>(given: Options<'a>, word: &'a str) -> Option<Options<'a>>
-    ensures { result ≡ with_text given.entry word.now }
+/// The command: a name and seven options.
+fn words_command<'a>(alloc: Global) -> Result<Command<'a>, AllocError>
+    ensures { IfOk result (λ command. app_of command ≡ words_app) }
 {
-    let mut options = given;
-    options.text = once(options.text, word)?;
-    Some(options)
+    Command::new(alloc, "bracket_program")
+        .disable_help_flag(true)
+        .arg(name_arg(alloc))?
+        .arg(option_arg(alloc, "grammar"))?
+        .arg(option_arg(alloc, "brackets"))?
+        .arg(option_arg(alloc, "nesting"))?
+        .arg(option_arg(alloc, "steps"))?
+        .arg(option_arg(alloc, "long"))?
+        .arg(option_arg(alloc, "tab"))?
+        .arg(option_arg(alloc, "make"))
 }
 
-fn no_options<'a>() -> Options<'a>
-    ensures { result ≡ no_options }
+/// The name of the text.
+fn name_arg<'a>(alloc: Global) -> Arg<'a>
+    ensures rule { rule_of result ≡ name_rule }
+    ensures own { result.global ≡ false }
+{
+    Arg::new(alloc, "text").action(ArgAction::Set)
+}
+
+/// An option that has one value.
+fn option_arg<'a>(alloc: Global, name: &'a str) -> Arg<'a>
+    ensures rule { rule_of result ≡ option_rule name.entry.now }
+    ensures own { result.global ≡ false }
+{
+    Arg::new(alloc, name).long(name).action(ArgAction::Set)
+}
+
+/// The values that were found.
+fn options_of<'a>(matches: &ArgMatches<'a>) -> Options<'a>
+    ensures { result ≡ options_of matches.now }
 {
     Options {
-        text: None,
-        grammar: None,
-        brackets: None,
-        nesting: None,
-        steps: None,
-        long: None,
-        tab: None,
-        make: None,
-    }
-}
-
-/// The options with one more, which has no value yet.
-fn with_option<'a>(given: Options<'a>, option: &str, value: &'a str) -> Option<Options<'a>>
-    ensures { result ≡ with_option given.entry option.now value.now }
-{
-    let mut options = given;
-    if option == "--grammar" {
-        options.grammar = once(options.grammar, value)?;
-    } else if option == "--brackets" {
-        options.brackets = once(options.brackets, value)?;
-    } else if option == "--nesting" {
-        options.nesting = once(options.nesting, value)?;
-    } else if option == "--steps" {
-        options.steps = once(options.steps, value)?;
-    } else if option == "--long" {
-        options.long = once(options.long, value)?;
-    } else if option == "--tab" {
-        options.tab = once(options.tab, value)?;
-    } else if option == "--make" {
-        options.make = once(options.make, value)?;
-    } else {
-        return None;
-    }
-    Some(options)
-}
-
-/// A value for an option that has none yet.
-fn once<'a>(earlier: Option<&'a str>, value: &'a str) -> Option<Option<&'a str>>
-    ensures { option_map (λ values. option_map (λ v. v.now) values) result ≡ once (option_map (λ v. v.now) earlier.entry) value.now }
-{
-    match earlier {
-        None => Some(Some(value)),
-        Some(_) => None,
+        text: matches.get_str("text"),
+        grammar: matches.get_str("grammar"),
+        brackets: matches.get_str("brackets"),
+        nesting: matches.get_str("nesting"),
+        steps: matches.get_str("steps"),
+        long: matches.get_str("long"),
+        tab: matches.get_str("tab"),
+        make: matches.get_str("make"),
     }
 }
 
@@ -289,13 +238,6 @@ fn limits_in(given: Options<'_>) -> Option<Limits>
         long,
         tab,
     })
-}
-
-/// A plain word is `-` or begins with no `-`.
-fn is_plain(word: &str) -> bool
-    ensures { result ≡ is_plain word.now }
-{
-    word == "-" || !word.starts_with('-')
 }
 
 /// No name is empty.

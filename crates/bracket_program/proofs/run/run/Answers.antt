@@ -1,4 +1,4 @@
-use Rattle.bracket_program.proofs.RunLaws.{run-done, run-words, run-refused, run-read_fault}
+use Rattle.bracket_program.proofs.RunLaws.{run-done, run-words, run-no_words, run-refused, run-read_fault}
 use Rattle.bracket_program.proofs.RunLaws.{run-write_fault, run-script_full, run-untouched, run-front}
 use Rattle.bracket_program.proofs.RunLaws.{run-completes_for, run-fills_for, run-file_rise, run-script_rise}
 use Rattle.bracket_program.proofs.RunLaws.{run-sink_rise, run-files, run-made, run-unopened, run-refuses_for}
@@ -9,6 +9,9 @@ returns-clause-done g c = run-done _ _ _ _ _ _ _ c.run_to_end.ensures.ends
 
 pub returns-clause-words : goal.returns-clause-words
 returns-clause-words g c = run-words _ _ _ _ _ _ _ c.run_to_end.ensures.ends
+
+pub returns-clause-no_words : goal.returns-clause-no_words
+returns-clause-no_words g c = run-no_words _ _ _ _ _ _ _ c.run_to_end.ensures.ends
 
 pub returns-clause-refused : goal.returns-clause-refused
 returns-clause-refused g c = run-refused _ _ _ _ _ _ _ c.run_to_end.ensures.ends
