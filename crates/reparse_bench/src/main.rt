@@ -17,6 +17,9 @@ use line_text::Text;
 use std::env;
 use std::rt::CpuClock;
 
+/// A line of so many characters has no brackets.
+const LONG: u32 = 20_000;
+
 fn main(rt: HostRuntime) -> Result<()> {
     let mut timed = false;
     for word in env::args(&rt)? {
@@ -54,7 +57,7 @@ fn run(rt: &HostRuntime, timed: bool) -> Result<()> {
         return Ok(());
     };
     let brackets = Brackets::usual(alloc)?;
-    let old = MarkLines::of_text(alloc, &brackets, &text, 20_000)?;
+    let old = MarkLines::of_text(alloc, &brackets, &text, LONG)?;
     let middle = text.lines() / 2;
     let Some(mark) = first_mark(&old, middle) else {
         println!(rt; "no bracket")?;
@@ -65,6 +68,6 @@ fn run(rt: &HostRuntime, timed: bool) -> Result<()> {
         println!(rt; "no text")?;
         return Ok(());
     };
-    let new = MarkLines::of_text(alloc, &brackets, &rest, 20_000)?;
+    let new = MarkLines::of_text(alloc, &brackets, &rest, LONG)?;
     measure(rt, &old, &new, middle, mark, timed)
 }
