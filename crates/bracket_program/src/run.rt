@@ -22,9 +22,9 @@ use std::alloc::Global;
 use std::sync::ledger::Ledger;
 use step_count::Steps;
 
-/// Does all that the program does: opens the files that the words name, answers the script line by line, and says how
-/// that ended. A file, a script or a sink may tell what it holds or not; what is said of contents holds where they are
-/// told. No step and no mark is counted yet.
+/// Does all that the program does: opens the files that the words name, answers the script line by line, or tells of a
+/// text that is made, and says how that ended. A file, a script or a sink may tell what it holds or not; what is said of
+/// contents holds where they are told. No step and no mark is counted yet.
 pub fn run<F: Files, S: Source, K: Sink, L: Ledger, M: Ledger>(
     alloc: Global,
     words: &[String],

@@ -6,7 +6,7 @@ use std::alloc::AllocError;
 /// How a run ended.
 #[derive(Clone, Copy, Debug, PartialEq, Eq)]
 pub enum Status {
-    /// The script was read to its end.
+    /// The script was read to its end, or all that tells of a text that is made was written.
     Done,
     /// The words are no command line.
     Words,
@@ -14,7 +14,7 @@ pub enum Status {
     TextFile,
     /// The grammar file is too large, or no grammar.
     GrammarFile,
-    /// The bracket file is too large, or has no pairs of brackets.
+    /// The bracket file is too large, or no bracket file, or has too many or too long brackets.
     BracketFile,
     /// A file or the script could not be read.
     ReadFault,

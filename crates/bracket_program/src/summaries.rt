@@ -17,7 +17,7 @@ use script_words::Reply;
 use std::alloc::{AllocError, Global};
 use text_maker::make_edit;
 
-/// So many times edits are made between two summaries.
+/// How many summaries stand behind the first, each behind edits of its own.
 const ROUNDS: u32 = GENERATED_EDITS / EDITS_OF_A_SUMMARY;
 
 /// Tells of a text of so many lines that was made: at first, and behind each fiftieth of the edits that are made of it.
