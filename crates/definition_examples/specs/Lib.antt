@@ -1,0 +1,5 @@
+pub mod Attempts
+pub mod Classes
+pub mod Escapes
+pub mod Injections
+pub mod Scopes

@@ -1,0 +1,2 @@
+//! Worked examples of definitions that speak of patterns, scopes, lines and grammars, each a theorem.
+#![tactic(auto)]
