@@ -1,6 +1,10 @@
 pub mod Attempts
+pub mod Canonical
 pub mod Classes
 pub mod Escapes
+pub mod Grammars
+pub mod Graphs
 pub mod Injections
+pub mod Lines
 pub mod Patterns
 pub mod Scopes
