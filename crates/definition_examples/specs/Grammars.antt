@@ -211,3 +211,14 @@ pub rules_of_the_repository_and_of_injections_count :
     ≡ 6
 rules_of_the_repository_and_of_injections_count = refl
 
+-- so many rules in a list
+abbrev rules : ℕ → FileList
+rules zero = nothing
+rules (suc more) = rule no_texts absent absent absent absent false absent (rules more)
+
+abbrev many : ℕ → Grammar
+many count = record { scope = codes "s"; patterns = rules count; repository = []; injections = [] }
+
+pub a_grammar_has_at_most_65536_rules :
+    (within_limit (many 65_535) ≡ grammar (many 65_535)) × (within_limit (many 65_536) ≡ too_many_rules 65_537)
+a_grammar_has_at_most_65536_rules = (refl, refl)

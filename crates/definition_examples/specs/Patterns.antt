@@ -14,6 +14,11 @@ use Rattle.syntax_defs.specs.PatternExamples.{pattern_forms, id, options, single
 
 -- ---- limits
 
+-- a `)` and 65,535 letters are not too long: they are refused at their first place
+pub a_text_of_just_65536_characters_is_read : read_pattern (41 ∷ replicate 65535 97) ≡ Err (Syntax 0)
+unfolding pattern_forms
+a_text_of_just_65536_characters_is_read = refl
+
 pub a_number_may_be_100000 : read_pattern (codes "a{100000}")
     ≡ parsed ((single 0 ∷ []) ∷ (Repeat (id 0) 100_000 (Some 100_000) true ∷ []) ∷ []) 1 0
 unfolding pattern_forms

@@ -1,7 +1,8 @@
 -- Further worked examples of scopes, types, selectors and frames, each named by what it shows.
-use Rattle.std.specs.Prelude.{◌≡◌, [], ◌∷◌, codes, map, length, replicate, true, false, Some, None, Err, refl}
+use Rattle.std.specs.Prelude.{◌≡◌, ◌-◌, [], ◌∷◌, ◌++◌, codes, map, length, take, replicate, true, false, Some, None, Err, refl}
+use Rattle.std.proofs.Common.{ap}
 use Rattle.scope_defs.specs.declared.types.StdType.TheVariants.{Other, Comment, Text, RegEx}
-use Rattle.scope_defs.specs.Scopes.{with_names}
+use Rattle.scope_defs.specs.Scopes.{Scopes, with_names}
 use Rattle.scope_defs.specs.StandardType.{type_of, type_of_name}
 use Rattle.scope_defs.specs.Frames.{forgotten}
 use Rattle.scope_defs.specs.Selectors.{Path}
@@ -68,3 +69,10 @@ pub places_and_anchors_are_forgotten :
     }
 places_and_anchors_are_forgotten = refl
 
+-- ---- how many names a list has
+
+pub a_list_has_at_most_1048576_names :
+    (scopes : Scopes) → length scopes ≡ 1_048_575
+    → with_names scopes (codes "b" ∷ codes "c" ∷ []) ≡ scopes ++ codes "b" ∷ []
+a_list_has_at_most_1048576_names scopes is =
+    ap (λ n. scopes ++ take (1_048_576 - n) (codes "b" ∷ codes "c" ∷ [])) is
