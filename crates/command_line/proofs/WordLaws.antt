@@ -88,7 +88,7 @@ pub request_tab : (words : List (List ℕ)) (r : Request) → request_of words �
 request_tab [] r e = cc
 request_tab (program ∷ words) r e = behind_options (said no_options words) r e
 
--- a text that is made has as many lines as it may have
+-- a text that is made has at least one line, and no more than it may have
 made_in_range : (lines : List ℕ) (subject : Subject) → made_of lines ≡ Some subject → IsInRange subject
 made_in_range lines subject e =
     by_number (is_within 1 MOST_GENERATED_LINES lines)

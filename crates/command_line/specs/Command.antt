@@ -7,13 +7,15 @@ use Rattle.clap.specs.declared.builder.action.ArgAction.TheVariants.{Set}
 use Rattle.clap.specs.declared.parser.matches.ArgMatches.{ArgMatches}
 use Rattle.session_defs.specs.Words.{Options}
 
+-- the name of the text, a word by itself
 abbrev pub name_rule : Rule
 name_rule = record (new_rule (codes "text")) { action = Some Set }
 
+-- an option, `--` and this name, with one value
 abbrev pub option_rule : Text → Rule
 option_rule name = record (new_rule name) { long = Some name; action = Some Set }
 
--- a name and seven options, each with one text, and no help
+-- a name and seven options, each with one text; no help and no version
 abbrev pub words_app : App
 words_app =
     with_rule (with_rule (with_rule (with_rule (with_rule (with_rule (with_rule (with_rule

@@ -9,7 +9,7 @@ abbrev pub subject_in : Subject → Asked
 subject_in (TextFile name) = text_file name.now
 subject_in (Generated lines) = generated lines
 
--- a text that is made has as many lines as it may have
+-- a text that is made has at least one line, and no more than it may have
 abbrev pub IsInRange : Asked → Type 0
 IsInRange (text_file name) = Unit {0}
 IsInRange (generated lines) = (1 ≤ lines) × (lines ≤ MOST_GENERATED_LINES)

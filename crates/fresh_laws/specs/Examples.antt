@@ -1,4 +1,5 @@
--- Worked examples of the law: how many marks are unsettled, and how many are fresh, each named by what it shows.
+-- Worked examples of the law: how many marks are unsettled, and how many are fresh, each named by what it shows. The
+-- brackets are the usual ones, so `(` is of kind 2.
 use Rattle.std.specs.Prelude.{◌≡◌, ℕ, List, [], ◌∷◌, codes, count_by, false, Some, None, refl}
 use Rattle.pairing_defs.specs.OnLiterals.{words_on_literals}
 use Rattle.tree_defs.specs.Tree.{Tree, Nothing, Text, Pair, Two, Three}
@@ -12,7 +13,7 @@ numbers t old new changes = (count_by (is_unsettled t changes) (marks new), fres
 
 -- `()`
 abbrev pub round : Tree
-round = Pair (far 0 1) 0 Nothing (Some (far 0 1))
+round = Pair (far 0 1) 2 Nothing (Some (far 0 1))
 
 -- where a line ends
 abbrev pub line_end : Tree
@@ -46,6 +47,6 @@ unfolding words_on_literals
 a_deleted_pair_leaves_nothing_unsettled = refl
 
 -- an opener without a partner is unsettled wherever the changes are, and fresh only in one of them
-pub a_mark_without_a_partner_stays_unsettled : numbers (Pair (far 0 1) 0 (Two line_end round) None) (codes "(" ∷ codes "()" ∷ []) (codes "(" ∷ codes "()" ∷ []) [] ≡ (1, 0)
+pub a_mark_without_a_partner_stays_unsettled : numbers (Pair (far 0 1) 2 (Two line_end round) None) (codes "(" ∷ codes "()" ∷ []) (codes "(" ∷ codes "()" ∷ []) [] ≡ (1, 0)
 unfolding words_on_literals
 a_mark_without_a_partner_stays_unsettled = refl

@@ -19,10 +19,10 @@ use Rattle.pattern_defs.specs.Attempt.{Subject, Todo, Node, Close, Again, Captur
 use Rattle.pattern_defs.specs.Attempt.{go_on, before, with_whole, is_char, char_before, holds_at, is_word_edge}
 use Rattle.pattern_defs.specs.Attempt.{repeat_ways, is_greatest, arms_run, looked, where_holds, or_else}
 use Rattle.onig_scan.specs.declared.front.Front.{Front}
-use Rattle.onig_scan.specs.Runs.{EndsWith, EndsFrom, AllEnd, Anywhere, Nowhere}
+use Rattle.onig_scan.specs.Runs.{EndsWith, EndsFrom, AllEnd, Nowhere}
 use Rattle.onig_scan.specs.Bounds.{subject_of, IsBound, AreArmBounds}
 use Rattle.onig_scan.specs.Fronts.{IsWithin, IsWider}
-use Rattle.onig_scan.specs.Pasts.{may_precede, is_inside, IsUnfit, IsPast, ArePasts, IsPassing, IsPastOfAll}
+use Rattle.onig_scan.specs.Pasts.{may_precede, IsUnfit, IsPast, ArePasts, IsPassing, IsPastOfAll}
 use Rattle.onig_scan.proofs.Runs.{at_more, ends_else, ends_where, ends_looked, ends_unseen, from_act, misses_now}
 use Rattle.onig_scan.proofs.Runs.{go_on-step, go_on-empty, ends_At, ends_Group, ends_Choice, ends_Ahead}
 use Rattle.onig_scan.proofs.Runs.{ends_Repeat, ends_needed, ends_whole, ends_narrow}

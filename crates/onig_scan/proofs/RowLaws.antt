@@ -1,8 +1,7 @@
 -- Which attempts are spared at the places of a row.
-use Rattle.std.proofs.Common.{◌≡◌, ℕ, ◌+◌, ◌-◌, ◌*◌, ◌<◌, ◌≤◌, Bool, true, false, List, Option, Some, None, refl, sym, arith, inl, inr}
+use Rattle.std.proofs.Common.{◌≡◌, ℕ, ◌+◌, ◌-◌, ◌*◌, ◌<◌, ◌≤◌, Bool, true, false, List, Option, Some, None, refl, arith, inl, inr}
 use Rattle.pattern_defs.specs.Attempt.{char_before}
-use Rattle.std.specs.Prelude.{cond, nat_lt}
-use Rattle.std.specs.Prelude.{slice_get}
+use Rattle.std.specs.Prelude.{cond, slice_get}
 use Rattle.char_sets.specs.declared.char_set.CharRange.{CharRange}
 use Rattle.std.proofs.lemmas.Bool.{false≢true}
 use Rattle.pattern_defs.specs.declared.outcomes.Flags.{Flags}
@@ -12,7 +11,7 @@ use Rattle.onig_scan.specs.Fronts.{IsFrontOfAll}
 use Rattle.onig_scan.specs.Pasts.{IsPastOfAll, is_inside}
 use Rattle.onig_scan.specs.declared.front.Front.{Front}
 use Rattle.onig_scan.specs.declared.rows.TheConstants.{CLASSES}
-use Rattle.onig_scan.specs.Rows.{class_of, past_row, AreScalars, HasRow, HasNone, HasNoneBefore, IsSpared, IsSparedAt, IsSparedPast}
+use Rattle.onig_scan.specs.Rows.{class_of, AreScalars, HasRow, HasNone, HasNoneBefore, IsSpared, IsSparedAt, IsSparedPast}
 
 -- by the characters of a front
 pub spared_by_front : (tree : Tree) (ranges : List CharRange) (class cost more : ℕ) → cost ≤ more

@@ -29,24 +29,24 @@ pub record IsUnfit (inside : Bool) (ranges : List CharRange) (begins : Bool) (te
   pub unfit : may_precede ranges begins (char_before text at) ≡ false
   pub asked : inside ≡ true → is_inside text at ≡ true
 
--- nodes miss at such places, at so many visits
+-- nodes miss at such places, at so many visits at most
 pub record IsPast (inside : Bool) (lists : NodeLists) (nodes : List PatNode) (f : Front) (cost : ℕ) : Type 0 where
   pub past : (text : List ℕ) (flags : Flags) (rest : List Todo) →
       EndsFrom (subject_of lists text flags) (IsUnfit inside f.set f.stays text) Nowhere (map Node nodes ++ rest) cost
 
--- lists of nodes that do, with the sum of the visits
+-- lists of nodes that do, with at least the sum of these visits
 abbrev pub ArePasts : Bool → NodeLists → List ListId → Front → ℕ → Type 0
 ArePasts inside lists [] f cost = Unit {0}
 ArePasts inside lists (id ∷ ids) f cost =
     (first : ℕ) × (others : ℕ) × (first + others ≤ cost) × IsPast inside lists (nodes_of lists id) f first
     × ArePasts inside lists ids f others
 
--- a node that takes nothing is passed at so many visits, or misses
+-- whatever nodes miss at such places, with this node before them they miss there too, at so many visits more at most
 pub record IsPassing (lists : NodeLists) (node : PatNode) (visits : ℕ) : Type 0 where
   pub passes : (inside : Bool) (nodes : List PatNode) (f : Front) (cost : ℕ) → IsPast inside lists nodes f cost →
       IsPast inside lists (node ∷ nodes) f (cost + visits)
 
--- an attempt of the pattern misses at such places, where so many visits are left
+-- an attempt of the pattern misses at such places, where at least so many visits are left
 pub record IsPastOfAll (inside : Bool) (tree : Tree) (f : Front) : Type 0 where
   pub misses : (text : List ℕ) (at : ℕ) (flags : Flags) (budget : ℕ) → IsUnfit inside f.set f.stays text at →
       f.cost ≤ budget → (rest : ℕ) × (attempt tree text at flags budget ≡ Miss rest)

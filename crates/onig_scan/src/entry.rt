@@ -15,12 +15,12 @@ use std::alloc::{AllocError, Global};
 use std::marker::Model;
 use std::rc::Rc;
 
-/// A pattern of a scanner, and the characters of which it needs one where it matches and before, where these are known.
+/// A pattern of a scanner, and what stands where it matches and before that, where this is known.
 #[derive(Debug, Drop)]
 pub(crate) struct Entry {
     pattern: Rc<Pattern>,
     front: Option<Front>,
-    /// The characters of which it needs one before the place.
+    /// The characters of which it needs one before the place, unless the text begins there, where it may.
     past: Option<Front>,
     /// The same between two word characters.
     inner: Option<Front>,

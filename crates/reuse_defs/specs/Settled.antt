@@ -1,4 +1,5 @@
--- The closed pairs of an old tree that no change meets or touches, and their marks in the new text.
+-- The closed pairs of an old tree that no change meets or touches, and the marks of the new text that start where
+-- brackets of these are moved to.
 use Rattle.std.specs.Prelude.{ℕ, ◌==◌, ◌&&◌, ◌||◌, Bool, not, List, [], ◌∷◌, ◌++◌, Some, None}
 use Rattle.std.specs.List.{list_any, list_all}
 use Rattle.text_pos.specs.declared.length.Length.{Length}
@@ -62,7 +63,8 @@ is_mark_of changes m pair =
 abbrev pub settles : List Change → Mark → ClosedPair → Bool
 settles changes m pair = is_unmet (placed changes) pair && is_mark_of changes m pair
 
--- a mark of the new text is one of a closed pair of the old tree that no change meets or touches
+-- a mark of the new text starts where a bracket is moved to of a closed pair of the old tree that no change meets or
+-- touches
 abbrev pub is_settled : Tree → List Change → Mark → Bool
 is_settled t changes m = list_any (settles changes m) (closed_pairs t start)
 

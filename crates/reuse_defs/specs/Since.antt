@@ -13,8 +13,7 @@ use Rattle.reuse_defs.specs.Whole.{StandsFor}
 abbrev pub lengths_of : List MarkedLine → List ℕ
 lengths_of lines = map (λ l. l.length) lines
 
--- a tree stands for the marks of old lines, which agree outside changes with those of new lines; and each new line is of
--- 32 bits
+-- a tree stands for the marks of old lines, which agree outside changes with those of new lines
 pub record Since (limit : ℕ) (t : Tree) (changes : List Change) (lines : List MarkedLine) : Type 0 where
   pub old : List MarkedLine
   pub last : Length

@@ -122,7 +122,7 @@ follow_up p last (x ∷ front) m rest follow =
     (up_to p (start_of x) (end_of x) follow.0 (less_up_to (start_of x) (end_of x) (mark_less x follow.1)))
     (follow_up (end_of x) last front m rest follow.3)
 
--- ---- a closed pair that no change meets, in the new text
+-- ---- a closed pair that no change meets or touches, in the new text
 module _ (lines : List MarkedLine) (a : Around) (old : Tree) (changes : List Change)
     (calm : IsCalm a.limit old changes lines) where
   abbrev order : are_in_order changes ≡ true

@@ -127,7 +127,7 @@ module _ (limit : ℕ) (old : Tree) (changes : List Change) (lines : List Marked
       let a = c.uncut in
       let b = rows_count (text_end lines) 0 (placed_from limit nothing_open (marks_in lines)) in omega (arith, a, b)
 
-  -- a closed pair that no change meets, and where it lies in the new text
+  -- a closed pair that no change meets or touches, and where it lies in the new text
   pub calm_pair : (p : ClosedPair) → cuts.IsIn p (closed_pairs old start) → is_unmet (placed changes) p ≡ true
       → Unmet changes p.from (length_of (node_of p))
   calm_pair p is apart =

@@ -25,7 +25,7 @@ or_true : (a b : Bool) → (a || b) ≡ true → (a ≡ true) ⊎ (b ≡ true)
 or_true true b h = inl refl
 or_true false b h = inr h
 
--- no change meets a piece: each ends before it starts, or starts behind its end
+-- no change meets or touches a piece: each ends before it starts, or starts behind its end
 abbrev pub AreApart : List Placed → Length → Length → Type 0
 AreApart ps from to = list_all (λ (p : Placed). is_less p.to.old from || is_less to p.from.old) ps ≡ true
 
@@ -99,7 +99,7 @@ is_there joint (p ∷ ps) from len c up apart =
           (there_now joint p ps from len c up far)
     ]
 
--- an old place that is of 32 bits, in front of a piece that no change meets
+-- an old place that is of 32 bits, in front of a piece that no change meets or touches
 pub record Unmet (changes : List Change) (from len : Length) : Type 0 where
   pub before : before changes (image changes from) ≡ Some from
   pub room : has_room (distance changes (image changes from)) len ≡ true

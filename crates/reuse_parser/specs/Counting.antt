@@ -1,4 +1,5 @@
--- What a parse that reads an old tree keeps, so that it reads unsettled marks alone.
+-- What a parse that reads an old tree keeps, so that it reads unsettled marks alone where each old mark has a row with
+-- a partner and each new mark a row.
 use Rattle.std.specs.Prelude.{◌≡◌, ℕ, ◌++◌, List, length, true, false, Some}
 use Rattle.text_pos.specs.declared.length.Length.{Length}
 use Rattle.text_pos.specs.Lengths.{plus, IsLess}
@@ -42,7 +43,8 @@ pub record IsOpenAt (lines : List MarkedLine) (a : Around) (at : Length) : Type 
   pub level : length (open_after a.limit nothing_open front).entries ≡ a.level
   pub among : AreAmong a.above (open_after a.limit nothing_open front).entries
 
--- of the closed pairs that start at the old place of a place and end before the next change, none can be reused there
+-- of the closed pairs that start at the old place of a place, end before the next change and have their opener in one
+-- line, none can be reused there
 abbrev pub NonePasses : Tree → List Change → Around → Length → Type 0
 NonePasses t changes a at = (p : ClosedPair) → IsIn p (closed_pairs t start) → IsInLine p.opener
     → before changes at ≡ Some p.from → HasRoom (distance changes at) (length_of (node_of p))

@@ -32,13 +32,13 @@ abbrev pub Calmly : ℕ → Old → List MarkedLine → (Tree → List Change �
 Calmly limit old lines P at =
     IsCalm limit old.reader.tree old.mapper lines → P old.reader.tree old.mapper at
 
--- a parse may go on at a place: no old place ahead lies before what was read, and the place lies strictly inside no pair
--- that no change meets
+-- a parse may go on at a place: no old place ahead lies before what was read; and where each old mark has a row with a
+-- partner and each new mark a row, the place lies strictly inside no closed pair that no change meets or touches
 pub record IsSet (lines : List MarkedLine) (limit : ℕ) (old : Old) (at : Length) : Type 0 where
   pub ready : IsReady old at
   pub outside : Calmly limit old lines IsOutside at
 
--- no mark that starts at a place is settled
+-- no mark that starts at a place is settled, where each old mark has a row with a partner and each new mark a row
 abbrev pub IsUnseen : List MarkedLine → ℕ → Old → Length → Type 0
 IsUnseen lines limit old at = Calmly limit old lines NoneSettled at
 

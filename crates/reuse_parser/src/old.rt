@@ -17,8 +17,8 @@ pub(crate) struct Old<'a> {
     pub(crate) reader: Reader<'a>,
 }
 
-/// The longest node of the old tree that has a row, stands at this place of the new text too, and keeps its rows there.
-/// None only where no closed pair is such.
+/// A node of the old tree that has a row, stands at this place of the new text too, and keeps its rows there. None only
+/// where no closed pair with its opener in one line is such.
 pub(crate) fn node_at<'a>(old: &mut Old<'a>, at: Length, around: Around) -> Option<&'a Node>
     requires ready { IsReady old.old at }
     requires order { are_in_order old.old.mapper ≡ true }

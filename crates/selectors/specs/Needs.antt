@@ -23,7 +23,7 @@ LacksOfEach (keys ∷ others) scopes = LacksOne keys scopes × LacksOfEach other
 abbrev pub Needs : Matcher → List (List ℕ) → Type 0
 Needs matcher needed = (scopes : Scopes) → LacksOfEach needed scopes → holds matcher scopes ≡ false
 
--- signs come to nothing there
+-- signs hold of no such scopes
 abbrev pub SignsNeed : List Sign → List (List ℕ) → Type 0
 SignsNeed signs needed = (scopes : Scopes) → LacksOfEach needed scopes → is_true (run scopes signs Holds) ≡ false
 
@@ -34,6 +34,8 @@ abbrev pub keys_at : Verdict → Sign → List (List ℕ)
 keys_at Holds (Path names true) = map key_of names ∷ []
 keys_at most sign = []
 
+-- the most that is known behind one more sign where an alternative may hold: the others are passed over, with so many
+-- parentheses open in them
 abbrev pub most_held : Sign → ℕ → Verdict
 most_held (Path names wanted) inside = Held inside
 most_held Opens inside = Held (inside + 1)
@@ -50,10 +52,12 @@ most_behind Opens Holds = Holds
 most_behind (Closes wanted) Holds = Holds
 most_behind Next Holds = Held 0
 
+-- the keys of each path that must hold inside its own parentheses and is reached where no such path before it holds
 abbrev pub keys_behind : List Sign → Verdict → List (List ℕ)
 keys_behind [] most = []
 keys_behind (sign ∷ signs) most = keys_at most sign ++ keys_behind signs (most_behind sign most)
 
+-- the most that is known behind all signs
 abbrev pub most_of : List Sign → Verdict → Verdict
 most_of [] most = most
 most_of (sign ∷ signs) most = most_of signs (most_behind sign most)

@@ -103,8 +103,9 @@ fn most_behind(most: Verdict, sign: &Sign) -> Verdict
     }
 }
 
-/// Keys that scopes need for an entry to hold: of each of its alternatives, those of the first path that must hold. There
-/// are none where it may hold without any such path.
+/// Keys that scopes need for an entry to hold: those of each path that must hold inside its own parentheses and that is
+/// reached where no such path before it holds; what must not hold may fail or not. There are none where the entry may
+/// hold without any such path.
 pub(crate) fn needed_keys(alloc: Global, signs: &[Sign]) -> Result<Option<Needed>, AllocError>
     ensures { IfOk result (λ needed. IfSome needed (SignsNeed signs.now)) }
 {
