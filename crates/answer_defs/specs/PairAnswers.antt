@@ -1,5 +1,5 @@
 -- What is answered about the pairs of a text: filters of its rows, or the first or the last row that meets a condition.
--- The questions and their answers are this project's own; guides are VS Code's bracket pair guides, but for their column.
+-- The questions and their answers are this project's own; guides are those of VS Code's bracket pair guides.
 use Rattle.std.specs.Prelude.{ℕ, suc, ◌+◌, ◌-◌, ◌*◌, ◌/◌, ◌==◌, List, [], ◌∷◌, length, map, filter, flat_map, reverse, slice_get, min, Bool, true, false, not, ◌&&◌, nat_lt, nat_le, if◌then◌else◌, Option, option_and_then}
 use Rattle.std.specs.List.{find, range_with_len}
 use Rattle.std.specs.Option.{option_or, option_map, is_some}
@@ -96,7 +96,7 @@ next_start rows at = option_map (λ r. r.mark.at) (find (starts_from at) rows)
 abbrev pub second_start : Twin → Pos
 second_start t = t.second.from
 
--- to the partner of the bracket at a place, else to the closer of the closed pair around it, else to the next bracket
+-- to the partner of the bracket at a place, else to the end of the closed pair around it, else to the next bracket
 abbrev pub jump_in : List Row → Pos → Option Pos
 jump_in rows at = option_or (option_map second_start (match_in rows at)) (option_or (option_map second_start (around_in rows at)) (next_start rows at))
 

@@ -49,7 +49,7 @@ is_set _ = false
 abbrev pub finish_last_in : Data → Bool
 finish_last_in d = is_set (get (codes "applyEndPatternLast") d)
 
--- whether a character is a digit, and the value of digits read after a number
+-- a digit's value, and that of digits read after a number
 abbrev pub is_digit : ℕ → Bool
 is_digit c = nat_le 48 c && nat_le c 57
 

@@ -1,6 +1,6 @@
 -- The command line. It is this project's own: the name of a text file and options, in any order. An option has its value
--- behind `=` in the same word, or in the next word; each comes at most once. Behind the word `--` all words are names.
--- Where `--make` is there, the text is made, of so many lines, and a name may be missing, or is named in vain.
+-- behind `=` in the same word, or in the next word; each comes at most once. Behind the word `--` all words are names. In
+-- place of the name there may be `--make`: then the text is made, of so many lines.
 use Rattle.std.specs.Prelude.{ℕ, ◌+◌, ◌-◌, ◌*◌, ◌==◌, ◌&&◌, ◌||◌, List, [], ◌∷◌, length, codes, fold, Bool, true, not}
 use Rattle.std.specs.Prelude.{nat_lt, nat_le, if◌then◌else◌, Option, Some, None, option_and_then, option_map}
 use Rattle.std.specs.List.{after_first, before_first, list_all, position_or_len}
