@@ -1,5 +1,5 @@
 -- A test of finitely many places shows that all places agree.
-use Rattle.std.proofs.Common.{◌≡◌, ℕ, zero, suc, ◌+◌, ◌<◌, ◌≤◌, ◌||◌, ◌^◌, ◌&&◌, Bool, true, false, List, [], ◌∷◌, length, Option, Some, None}
+use Rattle.std.proofs.Common.{◌≡◌, ℕ, zero, suc, ◌+◌, ◌<◌, ◌≤◌, ◌||◌, ◌^◌, ◌&&◌, Bool, true, false, List, [], ◌∷◌, length, map, Option, Some, None}
 use Rattle.std.proofs.Common.{refl, sym, ap, ◌∙◌, subst, slice_get, arith, inl, inr}
 use Rattle.std.specs.List.{list_all}
 use Rattle.std.proofs.lemmas.Bool.{and_from}
@@ -9,7 +9,7 @@ use Rattle.tree_defs.specs.Ends.{in_lines, reaches, fits}
 use Rattle.change_defs.specs.declared.Change.{Change}
 use Rattle.change_defs.specs.declared.Joint.{Joint}
 use Rattle.change_defs.specs.declared.Placed.{Placed}
-use Rattle.change_defs.specs.Changes.{is_less, carried, first_joint, end_before, is_inside, placed, back, are_in_order}
+use Rattle.change_defs.specs.Changes.{is_less, carried, first_joint, end_before, is_inside, placed, back, turned, are_in_order}
 use Rattle.change_defs.specs.Agreement.{Marked, Agree}
 use Rattle.tree_defs.proofs.Lengths.{same_length}
 use Rattle.change_laws.specs.Chains.{Chain}
@@ -273,3 +273,15 @@ may_be_reused cs old new marked some a limit t stands = record {
   stands = stands;
   agree = a.agree;
 }
+
+-- what a test that says no tells
+pub not_agreed : (cs : List Change) (ps bs : List Placed) (old new o n : Marked) → (AgreeBy ps bs o n → ⊥)
+    → ps ≡ placed cs → bs ≡ map turned ps → o ≡ old → n ≡ new → length n.lines < 2 ^ 32
+    → list_all is_narrow n.lines ≡ true → are_in_order cs ≡ true → Agree cs old new → ⊥
+not_agreed cs ps bs old new o n refused p b e f few narrow order h =
+    let short : length new.lines < 2 ^ 32 = subst (λ (t : Marked). length t.lines < 2 ^ 32) f few in
+    let thin : list_all is_narrow new.lines ≡ true = subst (λ (t : Marked). list_all is_narrow t.lines ≡ true) f narrow in
+    let agree : AgreeBy (placed cs) (back cs) old new = agrees_by cs old new order short thin h in
+    let turn : bs ≡ back cs = b ∙ ap (map turned) p in
+    refused (subst (λ qs. AgreeBy qs bs o n) (sym p) (subst (λ qs. AgreeBy (placed cs) qs o n) (sym turn)
+    (subst (λ t. AgreeBy (placed cs) (back cs) t n) (sym e) (subst (λ t. AgreeBy (placed cs) (back cs) old t) (sym f) agree))))

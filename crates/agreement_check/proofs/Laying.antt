@@ -1,5 +1,6 @@
 -- One change more, with its places.
-use Rattle.std.proofs.Common.{◌≡◌, ℕ, ◌<◌, true, false, List, [], ◌∷◌, ◌++◌, length, refl, sym, ap, ◌∙◌, subst, arith}
+use Rattle.std.proofs.Common.{◌≡◌, ℕ, zero, suc, ◌<◌, true, false, List, [], ◌∷◌, ◌++◌, length, take, drop, slice_index_or}
+use Rattle.std.proofs.Common.{refl, sym, ap, ◌∙◌, subst, arith}
 use Rattle.std.specs.List.{list_all}
 use Rattle.std.proofs.lemmas.Bool.{true≢false}
 use Rattle.text_pos.specs.Lengths.{plus}
@@ -34,7 +35,7 @@ behind_last joint before (d ∷ ds) rest c e h = behind_last (end_joint joint d)
     (both_true (is_less (plus before.start before.old) d.start) (rise_behind d (ds ++ c ∷ rest)) h).1
 
 -- a change that doesn't start behind the last of those before it
-pub not_in_order : (places : List Placed) (front rest all : List Change) (joint : Joint) (c : Change) → places ≡ placed front
+not_in_order : (places : List Placed) (front rest all : List Change) (joint : Joint) (c : Change) → places ≡ placed front
     → 0 < length places → joint ≡ last_joint first_joint front → is_less joint.old c.start ≡ false
     → front ++ c ∷ rest ≡ all → are_in_order all ≡ true → ⊥
 not_in_order places [] rest all joint c e some j h is order = absurd (omega (arith, ap length e, some))
@@ -53,9 +54,30 @@ fits_at joint (d ∷ ds) rest c h = fits_at (end_joint joint d) ds rest c
     (list_all placed_fits (placed_from (end_joint joint d) (ds ++ c ∷ rest))) h).1
 
 -- a change whose places aren't of 32 bits
-pub not_all_fit : (front rest all : List Change) (joint : Joint) (c : Change) → joint ≡ last_joint first_joint front
+not_all_fit : (front rest all : List Change) (joint : Joint) (c : Change) → joint ≡ last_joint first_joint front
     → placed_fits (placed_at joint c) ≡ false → front ++ c ∷ rest ≡ all → all_fit all ≡ true → ⊥
 not_all_fit front rest all joint c j h is fit =
     let all_of : all_fit (front ++ c ∷ rest) ≡ true = ap all_fit is ∙ fit in
     true≢false (sym (fits_at first_joint front rest c all_of)
     ∙ sym (ap (λ (k : Joint). placed_fits (placed_at k c)) j) ∙ h)
+
+-- a list is what lies before an element, that element, and what lies behind it
+split_here : (all : List Change) (i : ℕ) (d : Change) → i < length all
+    → take i all ++ slice_index_or all i d ∷ drop (suc i) all ≡ all
+split_here [] i d h = absurd (omega (arith, h))
+split_here (x ∷ xs) zero d h = refl
+split_here (x ∷ xs) (suc i) d h = ap (λ l. x ∷ l) (split_here xs i d (omega (arith, h)))
+
+pub none_in_order : (places : List Placed) (front all : List Change) (i : ℕ) (joint : Joint) (d : Change) → places ≡ placed front
+    → 0 < length places → joint ≡ last_joint first_joint front → is_less joint.old (slice_index_or all i d).start ≡ false
+    → front ≡ take i all → i < length all → are_in_order all ≡ true → ⊥
+none_in_order places front all i joint d e some j h is below order =
+    not_in_order places front (drop (suc i) all) all joint (slice_index_or all i d) e some j h
+    (ap (λ l. l ++ slice_index_or all i d ∷ drop (suc i) all) is ∙ split_here all i d below) order
+
+pub none_fit : (front all : List Change) (i : ℕ) (joint : Joint) (d : Change) → joint ≡ last_joint first_joint front
+    → placed_fits (placed_at joint (slice_index_or all i d)) ≡ false → front ≡ take i all → i < length all
+    → all_fit all ≡ true → ⊥
+none_fit front all i joint d j h is below fit =
+    not_all_fit front (drop (suc i) all) all joint (slice_index_or all i d) j h
+    (ap (λ l. l ++ slice_index_or all i d ∷ drop (suc i) all) is ∙ split_here all i d below) fit
