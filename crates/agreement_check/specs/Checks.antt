@@ -1,18 +1,18 @@
 -- A test of finitely many places that the marks of two texts agree outside changes.
-use Rattle.std.specs.Prelude.{◌≡◌, ℕ, ◌+◌, ◌-◌, ◌==◌, ◌&&◌, ◌||◌, Bool, true, false, nat_lt, min, if◌then◌else◌}
+use Rattle.std.specs.Prelude.{◌≡◌, ℕ, ◌+◌, ◌-◌, ◌^◌, ◌==◌, ◌&&◌, ◌||◌, Bool, true, false, nat_lt, min, if◌then◌else◌}
 use Rattle.std.specs.Prelude.{List, [], ◌∷◌, map, filter, Option, Some, None}
 use Rattle.std.specs.List.{list_all}
 use Rattle.text_pos.specs.declared.length.Length.{Length}
 use Rattle.pairing_defs.specs.declared.Mark.{Mark}
 use Rattle.bracket_marks.specs.MarkedLine.{MarkedLine, marks_in, text_end}
 use Rattle.mark_source.specs.Source.{AreMarked}
-use Rattle.tree_defs.specs.Ends.{in_lines}
+use Rattle.tree_defs.specs.Ends.{fits, in_lines}
 use Rattle.tree_defs.specs.Rows.{place}
 use Rattle.change_defs.specs.declared.Change.{Change}
 use Rattle.change_defs.specs.declared.Joint.{Joint}
 use Rattle.change_defs.specs.declared.Placed.{Placed}
-use Rattle.change_defs.specs.Changes.{is_less, carried, first_joint, is_inside, image_by, are_in_order}
-use Rattle.change_defs.specs.Agreement.{Marked, Agree, start_of, is_clear, is_uncut}
+use Rattle.change_defs.specs.Changes.{is_less, carried, first_joint, is_inside, image_by, are_in_order, all_fit}
+use Rattle.change_defs.specs.Agreement.{Marked, Agree, start_of, end_of, is_clear, is_uncut}
 use Rattle.tree_defs.specs.Tree.{Tree}
 use Rattle.reuse_defs.specs.Since.{Since}
 use Rattle.reuse_defs.specs.Whole.{StandsFor}
@@ -43,21 +43,34 @@ abbrev pub is_behind : Option Length → ℕ → Bool
 is_behind None line = false
 is_behind (Some start) line = nat_lt start.lines line
 
--- the places of a line that lie between a joint and the next change, if there are any, lie in new lines
+-- a length of 32 bits
+abbrev pub is_narrow : ℕ → Bool
+is_narrow len = nat_lt len (2 ^ 32)
+
+-- a place of 32 bits that lies in a line of these lengths
+abbrev pub has_place : List ℕ → Length → Bool
+has_place lengths at = fits at && in_lines lengths at
+
+-- the places of a line from a joint up to the start of the next change, if there are any, lie in new lines
 abbrev pub line_keeps : Joint → Option Length → List ℕ → ℕ → ℕ → Bool
 line_keeps joint next new line len = is_less (last_in next line len) joint.old || is_behind next line
-    || in_lines new (carried joint (last_in next line len))
+    || has_place new (carried joint (last_in next line len))
 
 abbrev pub lines_keep : Joint → Option Length → List ℕ → ℕ → List ℕ → Bool
 lines_keep joint next new n [] = true
 lines_keep joint next new n (len ∷ lens) = line_keeps joint next new n len && lines_keep joint next new (n + 1) lens
 
--- the places of old lines that lie strictly inside no change, and none before a joint, lie in new lines
+-- each place of an old line from a joint up to the start of the next change, both included, lies in a new line, carried by
+-- that joint: from the first joint, and from the end of each change
 abbrev pub places_keep : Joint → List ℕ → List ℕ → List Placed → Bool
 places_keep joint old new [] = lines_keep joint None new 0 old
 places_keep joint old new (p ∷ ps) = lines_keep joint (Some p.from.old) new 0 old && places_keep p.to old new ps
 
 -- ---- marks and ends
+
+-- a mark of 32 bits
+abbrev pub mark_fits : Mark → Bool
+mark_fits m = fits (end_of m)
 
 abbrev pub moved_by : List Placed → Mark → Mark
 moved_by ps m = record {
@@ -89,6 +102,10 @@ pub record AgreeBy (ps back : List Placed) (old new : Marked) : Type 0 where
 pub record AreAgreed (changes : List Change) (old new : List MarkedLine) : Type 0 where
   pub order : are_in_order changes ≡ true
   pub agree : Agree changes (marked_text old) (marked_text new)
+
+-- changes that start and end at places of 32 bits in both texts aren't in order, or the marks don't agree outside them
+abbrev pub IsRefused : List Change → List MarkedLine → List MarkedLine → Type 0
+IsRefused changes old new = all_fit changes ≡ true → ¬ AreAgreed changes old new
 
 -- a tree that stands for the old lines is one whose nodes a parse of the new lines may take
 abbrev pub MayBeReused : List Change → List MarkedLine → List MarkedLine → Type 0

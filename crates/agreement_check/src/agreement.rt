@@ -1,9 +1,10 @@
-ghost use Rattle.std.specs.Prelude.{◌≡◌, ◌<◌, true, length, IfOk, IfSome};
+ghost use Rattle.std.specs.Prelude.{◌≡◌, ◌<◌, ◌^◌, ◌↔◌, IsTrue, length, IfOk, IfSome, IfNone};
 ghost use Rattle.change_defs.specs.declared.Placed.{Placed};
-ghost use Rattle.agreement_check.specs.Checks.{AreSameBy, AgreeBy, AreAgreed, MayBeReused, moved_marks};
+ghost use Rattle.agreement_check.specs.Checks.{AreSameBy, AgreeBy, AreAgreed, IsRefused, MayBeReused, moved_marks};
 ghost use Rattle.mark_source.specs.Source.{AreMarked};
 ghost use Rattle.std.specs.Prelude.{filter};
 ghost use Rattle.change_defs.specs.Agreement.{is_clear};
+ghost use Rattle.change_defs.specs.Changes.{image_by};
 
 use crate::clear::{are_uncut, clear_marks, moved_marks};
 use crate::images::{image, is_inside};
@@ -18,17 +19,24 @@ use pairing_defs::Mark;
 use std::alloc::{AllocError, Global};
 use text_pos::Length;
 
+/// Whether an old place is this place of the new text.
+fn is_image(places: &[Placed], old: Length, new: Length) -> bool
+    ensures { IsTrue result ↔ (image_by places.now old ≡ new) }
+{
+    match image(places, old) {
+        Some(there) => there == new,
+        None => false,
+    }
+}
+
 /// Whether two places are images of each other.
 fn are_same(places: &[Placed], back: &[Placed], old: Length, new: Length) -> bool
-    ensures { result ≡ true → AreSameBy places.now back.now old new }
+    ensures { IsTrue result ↔ AreSameBy places.now back.now old new }
 {
-    if is_inside(places, old) || is_inside(back, new) {
-        return false;
-    }
-    match (image(places, old), image(back, new)) {
-        (Some(there), Some(back_there)) => there == new && back_there == old,
-        _ => false,
-    }
+    !is_inside(places, old)
+        && !is_inside(back, new)
+        && is_image(places, old, new)
+        && is_image(back, new, old)
 }
 
 /// Whether the marks that are clear of all changes are the same.
@@ -39,12 +47,12 @@ fn marks_agree(
     old: &[Mark],
     new: &[Mark],
 ) -> Result<bool, AllocError>
-    ensures { IfOk result (λ b. b ≡ true → moved_marks places.now old.now ≡ filter (is_clear back.now) new.now) }
+    ensures { IfOk result (λ b. IsTrue b ↔ (moved_marks places.now old.now ≡ filter (is_clear back.now) new.now)) }
 {
+    let clear = clear_marks(alloc, back, new)?;
     let Some(moved) = moved_marks(alloc, places, old)? else {
         return Ok(false);
     };
-    let clear = clear_marks(alloc, back, new)?;
     Ok(are_same_marks(&moved, &clear))
 }
 
@@ -56,7 +64,8 @@ fn agree_by(
     old: &Plain,
     new: &Plain,
 ) -> Result<bool, AllocError>
-    ensures { IfOk result (λ b. b ≡ true → AgreeBy places.now back.now old.now new.now) }
+    requires { length old.now.lines < 2 ^ 32 }
+    ensures { IfOk result (λ b. IsTrue b ↔ AgreeBy places.now back.now old.now new.now) }
 {
     if !are_same(places, back, old.end, new.end)
         || !are_uncut(places, &old.marks)
@@ -69,8 +78,8 @@ fn agree_by(
     marks_agree(alloc, places, back, &old.marks, &new.marks)
 }
 
-/// The changes, if they are in order, and if outside of them the marks of old and new lines agree. There may be none
-/// though they do.
+/// The changes, if they are in order and of 32 bits in both texts, and if outside of them the marks of old and new lines
+/// agree.
 pub fn agreed(
     alloc: Global,
     changes: &[Change],
@@ -83,6 +92,7 @@ pub fn agreed(
     ensures spans { IfOk result (λ o. IfSome o (λ s. s ≡ changes.now)) }
     ensures agreed { IfOk result (λ o. IfSome o (λ s. AreAgreed changes.now old.now new.now)) }
     ensures reuse { IfOk result (λ o. IfSome o (λ s. MayBeReused s old.now new.now)) }
+    ensures none { IfOk result (λ o. IfNone o (IsRefused changes.now old.now new.now)) }
 {
     let Some(laid) = places_of(alloc, changes)? else {
         return Ok(None);

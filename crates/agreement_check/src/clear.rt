@@ -1,7 +1,7 @@
-ghost use Rattle.std.specs.Prelude.{◌≡◌, true, filter, IfOk, IfSome};
+ghost use Rattle.std.specs.Prelude.{◌≡◌, true, false, filter, IfOk, IfSome, IfNone};
 ghost use Rattle.std.specs.List.{list_all};
 ghost use Rattle.change_defs.specs.Agreement.{start_of, end_of, is_clear_of, is_within, is_clear, is_uncut};
-ghost use Rattle.agreement_check.specs.Checks.{moved_by, moved_marks};
+ghost use Rattle.agreement_check.specs.Checks.{mark_fits, moved_by, moved_marks};
 
 use crate::images::{image, is_less};
 use change_defs::Placed;
@@ -43,7 +43,8 @@ fn is_within(place: Placed, mark: Mark) -> bool
 
 /// Whether a mark is clear of all changes.
 pub(crate) fn is_clear(places: &[Placed], mark: Mark) -> bool
-    ensures { result ≡ is_clear places.now mark }
+    ensures clear { result ≡ is_clear places.now mark }
+    ensures fit { mark_fits mark ≡ true }
 {
     places.iter().all(|place| is_clear_of(*place, mark))
 }
@@ -64,7 +65,8 @@ pub(crate) fn are_uncut(places: &[Placed], marks: &[Mark]) -> bool
 
 /// The mark of the new text that a mark is which is clear of all changes, where it is of 32 bits.
 fn moved(places: &[Placed], mark: Mark) -> Option<Mark>
-    ensures { IfSome result (λ m. m ≡ moved_by places.now mark) }
+    ensures moved { IfSome result (λ m. m ≡ moved_by places.now mark) }
+    ensures none { IfNone result (mark_fits (moved_by places.now mark) ≡ false) }
 {
     let at = image(places, start_of(mark))?;
     let width = mark.to.saturating_sub(mark.at.col);
@@ -85,7 +87,8 @@ pub(crate) fn moved_marks(
     places: &[Placed],
     marks: &[Mark],
 ) -> Result<Option<Vec<Mark>>, AllocError>
-    ensures { IfOk result (λ o. IfSome o (λ all. all.items ≡ moved_marks places.now marks.now)) }
+    ensures moved { IfOk result (λ o. IfSome o (λ all. all.items ≡ moved_marks places.now marks.now)) }
+    ensures none { IfOk result (λ o. IfNone o (list_all mark_fits (moved_marks places.now marks.now) ≡ false)) }
 {
     let mut all = Vec::new(alloc);
     for mark in marks {
@@ -105,7 +108,8 @@ pub(crate) fn clear_marks(
     places: &[Placed],
     marks: &[Mark],
 ) -> Result<Vec<Mark>, AllocError>
-    ensures { IfOk result (λ all. all.items ≡ filter (is_clear places.now) marks.now) }
+    ensures clear { IfOk result (λ all. all.items ≡ filter (is_clear places.now) marks.now) }
+    ensures fit { IfOk result (λ all. list_all mark_fits all.items ≡ true) }
 {
     let mut all = Vec::new(alloc);
     for mark in marks {

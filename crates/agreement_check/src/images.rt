@@ -1,4 +1,4 @@
-ghost use Rattle.std.specs.Prelude.{◌≡◌, true, IfSome};
+ghost use Rattle.std.specs.Prelude.{◌≡◌, true, false, IfSome, IfNone};
 ghost use Rattle.text_pos.specs.Lengths.{plus};
 ghost use Rattle.change_defs.specs.Changes.{is_less, rest_of, carried, first_joint, end_before, image_by, is_inside, turned};
 ghost use Rattle.tree_defs.specs.Ends.{fits};
@@ -34,6 +34,7 @@ fn rest_of(whole: Length, front: Length) -> Length
 pub(crate) fn sum(a: Length, b: Length) -> Option<Length>
     ensures sum { IfSome result (λ l. l ≡ plus a b) }
     ensures fits { IfSome result (λ l. fits l ≡ true) }
+    ensures none { IfNone result (fits (plus a b) ≡ false) }
 {
     if b.lines == 0 {
         let cols = a.cols.checked_add(b.cols)?;
@@ -54,6 +55,7 @@ pub(crate) fn sum(a: Length, b: Length) -> Option<Length>
 pub(crate) fn carried(joint: Joint, at: Length) -> Option<Length>
     ensures image { IfSome result (λ l. l ≡ carried joint at) }
     ensures fits { IfSome result (λ l. fits l ≡ true) }
+    ensures none { IfNone result (fits (carried joint at) ≡ false) }
 {
     sum(joint.new, rest_of(at, joint.old))
 }
@@ -86,7 +88,8 @@ fn end_before(places: &[Placed], at: Length) -> Joint
 
 /// The place of the new text that an old place is, where it is of 32 bits.
 pub(crate) fn image(places: &[Placed], at: Length) -> Option<Length>
-    ensures { IfSome result (λ l. l ≡ image_by places.now at) }
+    ensures image { IfSome result (λ l. l ≡ image_by places.now at) }
+    ensures none { IfNone result (fits (image_by places.now at) ≡ false) }
 {
     carried(end_before(places, at), at)
 }

@@ -1,4 +1,4 @@
-ghost use Rattle.std.specs.Prelude.{◌≡◌, true, Some, None};
+ghost use Rattle.std.specs.Prelude.{◌≡◌, ◌<◌, ◌^◌, length, Some, None};
 ghost use Rattle.std.specs.List.{list_all};
 ghost use Rattle.tree_defs.specs.Ends.{in_lines};
 ghost use Rattle.change_defs.specs.Changes.{first_joint};
@@ -41,7 +41,7 @@ fn is_behind(next: Option<Length>, line: u32) -> bool
 
 /// Whether the places of a line that lie between a joint and the next change, if there are any, lie in new lines.
 fn line_keeps(joint: Joint, next: Option<Length>, new: &[u32], line: u32, length: u32) -> bool
-    ensures { result ≡ true → line_keeps joint next new.now line length ≡ true }
+    ensures { result ≡ line_keeps joint next new.now line length }
 {
     let last = last_in(next, line, length);
     if is_less(last, joint.old) || is_behind(next, line) {
@@ -55,7 +55,8 @@ fn line_keeps(joint: Joint, next: Option<Length>, new: &[u32], line: u32, length
 
 /// The same of all lines.
 fn lines_keep(joint: Joint, next: Option<Length>, old: &[u32], new: &[u32]) -> bool
-    ensures { result ≡ true → lines_keep joint next new.now 0 old.now ≡ true }
+    requires { length old.now < 2 ^ 32 }
+    ensures { result ≡ lines_keep joint next new.now 0 old.now }
 {
     for (n, length) in old.iter().enumerate() {
         let Ok(line) = u32::try_from(n) else {
@@ -68,9 +69,11 @@ fn lines_keep(joint: Joint, next: Option<Length>, old: &[u32], new: &[u32]) -> b
     true
 }
 
-/// Whether the places of old lines that lie strictly inside no change lie in new lines.
+/// Whether each place of an old line from the end of a change up to the start of the next one, both included, has its place
+/// in a new line; so too before the first change and behind the last.
 pub(crate) fn places_keep(old: &[u32], new: &[u32], places: &[Placed]) -> bool
-    ensures { result ≡ true → places_keep first_joint old.now new.now places.now ≡ true }
+    requires { length old.now < 2 ^ 32 }
+    ensures { result ≡ places_keep first_joint old.now new.now places.now }
 {
     let mut joint = first_joint();
     for place in places {

@@ -1,5 +1,5 @@
-ghost use Rattle.std.specs.Prelude.{◌≡◌, true, map, IfOk, IfSome};
-ghost use Rattle.change_defs.specs.Changes.{is_less, placed, placed_at, placed_fits, are_in_order, turned};
+ghost use Rattle.std.specs.Prelude.{◌≡◌, true, false, map, IfOk, IfSome, IfNone};
+ghost use Rattle.change_defs.specs.Changes.{is_less, placed, placed_at, placed_fits, all_fit, are_in_order, turned};
 
 use crate::images::{carried, first_joint, is_less, sum};
 use change_defs::{Joint, Placed};
@@ -17,6 +17,7 @@ pub(crate) struct Laid {
 fn place_of(joint: Joint, change: Change) -> Option<Placed>
     ensures place { IfSome result (λ p. p ≡ placed_at joint change) }
     ensures fits { IfSome result (λ p. placed_fits (placed_at joint change) ≡ true) }
+    ensures none { IfNone result (placed_fits (placed_at joint change) ≡ false) }
 {
     let from = carried(joint, change.start)?;
     let end = sum(change.start, change.old)?;
@@ -36,6 +37,7 @@ pub(crate) fn places_of(alloc: Global, changes: &[Change]) -> Result<Option<Laid
     ensures spans { IfOk result (λ o. IfSome o (λ l. l.spans ≡ changes.now)) }
     ensures order { IfOk result (λ o. IfSome o (λ l. are_in_order changes.now ≡ true)) }
     ensures places { IfOk result (λ o. IfSome o (λ l. l.places.items ≡ placed changes.now)) }
+    ensures none { IfOk result (λ o. IfNone o (are_in_order changes.now ≡ true → all_fit changes.now ≡ true → ⊥)) }
 {
     let mut spans = Spans::none(alloc);
     let mut places = Vec::new(alloc);

@@ -1,5 +1,5 @@
 //! Tests, when the program runs, that the marks of two texts agree outside changes, which a parse with nodes of an old
-//! tree requires. They may answer no where the marks agree.
+//! tree requires.
 #![tactic(auto)]
 
 pub mod agreement;

@@ -1,6 +1,7 @@
-ghost use Rattle.std.specs.Prelude.{◌≡◌, ◌<◌, ◌++◌, map, length, IfOk, OnOk};
+ghost use Rattle.std.specs.Prelude.{◌≡◌, ◌<◌, ◌++◌, ◌^◌, true, map, length, IfOk, OnOk};
 ghost use Rattle.pairing_defs.specs.Marks.{on_line};
-ghost use Rattle.agreement_check.specs.Checks.{marked_text};
+ghost use Rattle.std.specs.List.{list_all};
+ghost use Rattle.agreement_check.specs.Checks.{marked_text, is_narrow};
 
 use bracket_lex::{LineMark, Mark, MarkLines};
 use std::alloc::{AllocError, Global};
@@ -43,7 +44,9 @@ fn take_line(all: &mut Vec<Mark>, n: u32, marks: &[LineMark]) -> Result<(), Allo
 /// What agreement sees of lines.
 pub(crate) fn plain_of(alloc: Global, lines: &MarkLines) -> Result<Plain, AllocError>
     requires { 0 < length lines.now }
-    ensures { IfOk result (λ t. t ≡ marked_text lines.now) }
+    ensures text { IfOk result (λ t. t ≡ marked_text lines.now) }
+    ensures few { IfOk result (λ t. length t.lines < 2 ^ 32) }
+    ensures narrow { IfOk result (λ t. list_all is_narrow t.lines ≡ true) }
 {
     let mut marks = Vec::new(alloc);
     let mut lengths = Vec::new(alloc);

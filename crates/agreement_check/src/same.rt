@@ -1,9 +1,9 @@
-ghost use Rattle.std.specs.Prelude.{◌≡◌, true};
+ghost use Rattle.std.specs.Prelude.{◌≡◌, ◌↔◌, IsTrue};
 
 use pairing_defs::{Mark, Role};
 
 fn is_same_role(a: Role, b: Role) -> bool
-    ensures { result ≡ true → a ≡ b }
+    ensures { IsTrue result ↔ (a ≡ b) }
 {
     match (a, b) {
         (Role::Opener(kind), Role::Opener(other)) => kind == other,
@@ -14,14 +14,14 @@ fn is_same_role(a: Role, b: Role) -> bool
 
 /// Whether two marks are equal.
 fn is_same(a: Mark, b: Mark) -> bool
-    ensures { result ≡ true → a ≡ b }
+    ensures { IsTrue result ↔ (a ≡ b) }
 {
     a.at.line == b.at.line && a.at.col == b.at.col && a.to == b.to && is_same_role(a.role, b.role)
 }
 
 /// Whether two lists of marks are equal.
 pub(crate) fn are_same_marks(a: &[Mark], b: &[Mark]) -> bool
-    ensures { result ≡ true → a.now ≡ b.now }
+    ensures { IsTrue result ↔ (a.now ≡ b.now) }
 {
     if a.len() != b.len() {
         return false;
