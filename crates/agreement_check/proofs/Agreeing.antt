@@ -191,7 +191,7 @@ last_up_to start line len h = grind (arith, nat_tests)
 -- what is kept between a joint and the next change, if each place there is
 stretch_kept : (joint : Joint) (next : Option Length) (old new : List ℕ)
     → ((at : Length) → is_less at joint.old ≡ false → UpTo next at → in_lines old at ≡ true
-        → has_place new (carried joint at) ≡ true)
+    → has_place new (carried joint at) ≡ true)
     → lines_keep joint next new 0 old ≡ true
 stretch_kept joint None old new each = all_kept joint None new 0 old (λ k m len e is.
     let here : k ≡ m = omega (arith, e) in
@@ -213,7 +213,7 @@ same_place a b h k =
 kept_between : (joint : Joint) (p : Placed) (ps : List Placed) (old new : List ℕ) (at : Length) → Chain joint (p ∷ ps)
     → in_lines new p.from.new ≡ true
     → ((at : Length) → is_less at joint.old ≡ false → in_lines old at ≡ true → is_inside (p ∷ ps) at ≡ false
-        → in_lines new (carried (end_before joint (p ∷ ps) at) at) ≡ true)
+    → in_lines new (carried (end_before joint (p ∷ ps) at) at) ≡ true)
     → is_less at joint.old ≡ false → is_less p.from.old at ≡ false → in_lines old at ≡ true
     → in_lines new (carried joint at) ≡ true
 kept_between joint p ps old new at c start each b u i = elim (is_or (is_less at p.to.old)) [
@@ -228,7 +228,7 @@ kept_between joint p ps old new at c start each b u i = elim (is_or (is_less at 
 pub places_from : (joint : Joint) (ps : List Placed) (old new : List ℕ) → length new < 2 ^ 32
     → list_all is_narrow new ≡ true → Chain joint ps → list_all (λ p. in_lines new p.from.new) ps ≡ true
     → ((at : Length) → is_less at joint.old ≡ false → in_lines old at ≡ true → is_inside ps at ≡ false
-        → in_lines new (carried (end_before joint ps at) at) ≡ true)
+    → in_lines new (carried (end_before joint ps at) at) ≡ true)
     → places_keep joint old new ps ≡ true
 places_from joint [] old new few narrow c starts each = stretch_kept joint None old new
     (λ at b u i. has_place_from new (carried joint at) few narrow (each at b i refl))
