@@ -1,2 +1,2 @@
-//! Worked examples of definitions that speak of patterns, scopes, lines and grammars, each a theorem.
+//! Worked examples of definitions, from those of texts and patterns up to those of sessions and reuse, each a theorem.
 #![tactic(auto)]
