@@ -1,3 +1,5 @@
+//! Counts of lists and nodes of a pattern, where too many count as want of memory.
+
 ghost use Rattle.std.specs.Prelude.{◌≡◌, ◌+◌, IfOk};
 
 use std::alloc::AllocError;

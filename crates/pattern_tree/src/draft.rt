@@ -1,3 +1,5 @@
+//! A pattern that is being put together, list by list.
+
 ghost use Rattle.std.specs.Prelude.{◌≡◌, ◌<◌, ◌≤◌, [], ◌∷◌, ◌++◌, length, max, IfOk, OnOk, OnErr};
 ghost use Rattle.pattern_defs.specs.Patterns.{AreNodes};
 

@@ -1,3 +1,5 @@
+//! A pattern as numbered lists of nodes, and whether it is flat.
+
 ghost use Rattle.std.specs.Prelude.{◌≡◌, ◌<◌, length};
 ghost use Rattle.std.specs.List.{list_all};
 ghost use Rattle.pattern_defs.specs.Patterns.{Tree, nodes_of, size_of, is_flat, is_plain, AllIds, AreNodes, AreLists};

@@ -1,3 +1,5 @@
+//! Which calls of an object in memory fail, and how its calls are counted.
+
 ghost use Rattle.std.specs.Prelude.{◌≡◌, ◌↔◌, ◌≤◌, ◌++◌, IsTrue, Contains, IfOk, List, length, take, drop};
 ghost use Rattle.piece_io.specs.Told.{risen};
 ghost use Rattle.piece_io.specs.Mem.{IsNextFailing, called};

@@ -1,3 +1,5 @@
+//! The trait of files that are read by name, from any place.
+
 ghost use Rattle.std.specs.Prelude.{◌≡◌, ℕ, ◌<◌, ◌≤◌, List, length, IfOk, OnOk, OnErr};
 ghost use Rattle.piece_io.specs.Told.{Told, GivesFrom, risen};
 

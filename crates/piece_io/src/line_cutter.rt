@@ -1,3 +1,5 @@
+//! Cuts a stream of bytes into lines at each LF, in whatever pieces it comes.
+
 ghost use Rattle.std.specs.Prelude.{◌≡◌, ℕ, ◌+◌, ◌<◌, ◌≤◌, ◌↔◌, IsTrue, List, [], ◌∷◌, ◌++◌, length, take, drop, false, true, Some, None, MatchOption, IfOk, OnOk, OnErr, if◌then◌else◌};
 ghost use Rattle.text_defs.specs.Text.{lines_of, most_line_bytes};
 ghost use Rattle.piece_io.specs.Cuts.{Cutting, cut_of, cuts_of, Feeds, next_cut};

@@ -1,3 +1,5 @@
+//! Files in memory, of which listed reads fail, and reads of names that aren't there.
+
 ghost use Rattle.std.specs.Prelude.{◌≡◌, ◌≢◌, ◌↔◌, ℕ, ◌<◌, ◌≤◌, ◌⊎◌, ◌++◌, List, [], IsErr, IfOk, OnOk, OnErr, Some, None, length, take, drop, min, position};
 ghost use Rattle.std.specs.Option.{option_copied};
 ghost use Rattle.std.specs.Str.{bytes_eq};

@@ -1,3 +1,5 @@
+//! A sink that keeps bytes in memory, and fails at listed calls and where its room is full.
+
 ghost use Rattle.std.specs.Prelude.{◌≡◌, ◌↔◌, ◌<◌, ◌≤◌, ◌⊎◌, IsErr, IfOk, OnOk, OnErr, List, [], length, take, Some};
 ghost use Rattle.piece_io.specs.Mem.{IsNextFailing, IsFull, SinkState, write_size, after_write, after_failed_write};
 ghost use Rattle.piece_io.specs.Told.{appended, risen};

@@ -1,3 +1,5 @@
+//! A source that gives bytes from memory, a piece at a time, and fails at listed calls.
+
 ghost use Rattle.std.specs.Prelude.{◌≡◌, ◌↔◌, ◌<◌, ◌≤◌, ◌++◌, IsErr, IfOk, OnOk, OnErr, List, length, take, drop, Some};
 ghost use Rattle.piece_io.specs.Mem.{IsNextFailing, SourceState, read_size, after_read, after_failed_read};
 ghost use Rattle.piece_io.specs.Told.{GivesFront, risen};

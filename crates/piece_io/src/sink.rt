@@ -1,3 +1,5 @@
+//! The trait of what takes bytes in pieces, as standard output does.
+
 ghost use Rattle.std.specs.Prelude.{◌≡◌, ℕ, ◌<◌, ◌≤◌, List, Option, length, take, IfOk, OnOk, OnErr};
 ghost use Rattle.piece_io.specs.Told.{appended, risen};
 

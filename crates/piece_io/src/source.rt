@@ -1,3 +1,5 @@
+//! The trait of bytes that come in pieces, as standard input does, and the failure of a call.
+
 ghost use Rattle.std.specs.Prelude.{◌≡◌, ℕ, ◌<◌, ◌≤◌, List, Option, length, IfOk, OnOk, OnErr};
 ghost use Rattle.piece_io.specs.Told.{GivesFront, risen};
 

@@ -1,3 +1,5 @@
+//! Reads a file whole, up to a limit of its bytes, and writes bytes whole to a sink.
+
 ghost use Rattle.std.specs.Prelude.{◌≡◌, ℕ, ◌+◌, ◌^◌, ◌<◌, ◌≤◌, List, length, take, IfOk, OnOk, OnErr};
 ghost use Rattle.piece_io.specs.Told.{appended, risen};
 ghost use Rattle.piece_io.specs.FileEnds.{ReadsWhole, IsTooLong, IfTooLong, OnFailed, UnlessFailed};

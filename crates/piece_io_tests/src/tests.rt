@@ -1,3 +1,5 @@
+//! Shows how objects in memory fail, how files are read whole or refused, and how a stream is cut into lines.
+
 ghost use Rattle.std.specs.Prelude.{◌≡◌, ◌<◌, length};
 
 use piece_io::{

@@ -1,3 +1,5 @@
+//! Takes all marks of a source from its place on, in order.
+
 ghost use Rattle.std.specs.Prelude.{◌≡◌, ◌+◌, ◌≤◌, ◌<◌, [], length, IfOk};
 ghost use Rattle.mark_source.specs.Source.{ahead, AreMarked};
 ghost use Rattle.reuse_parser.specs.Parsing.{last_place, AllFit, given_after};

@@ -1,3 +1,5 @@
+//! Laws of what new nodes, and nodes of an old tree, add to a list.
+
 ghost use Rattle.reuse_parser.specs.AddLaws.{TextAdds, CutAdds, LoneAdds, PairAdds, FoundAdds};
 
 /// What is made of the marks ahead adds to a list: the text up to the next mark, an opener that is met at the nesting

@@ -1,3 +1,5 @@
+//! Makes lists, pairs and single nodes of marks alone, without an old tree.
+
 ghost use Rattle.std.specs.Prelude.{◌≡◌, ℕ, ◌<◌, ◌≤◌, ◌&&◌, ◌∷◌, IfOk, IfSome, None, IsTrue};
 ghost use Rattle.text_pos.specs.KindSet.{has_kind};
 ghost use Rattle.tree_defs.specs.Items.{IsOpener};

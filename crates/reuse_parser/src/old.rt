@@ -1,3 +1,5 @@
+//! Finds a node of the old tree that can be taken at a place of the new text.
+
 ghost use Rattle.std.specs.Prelude.{◌≡◌, IfSome, None, true};
 ghost use Rattle.change_defs.specs.Changes.{are_in_order};
 ghost use Rattle.reuse_parser.specs.Reusing.{IsFound};

@@ -1,3 +1,5 @@
+//! Where a parse stands, what is around a list, and where marks start and end.
+
 ghost use Rattle.std.specs.Prelude.{◌≡◌, ◌<◌, ◌||◌, ◌==◌, IfSome, None, false};
 ghost use Rattle.reuse_parser.specs.Parsing.{start_of, end_of, next_start, size_of, front_has, IsFront, IsWithin};
 

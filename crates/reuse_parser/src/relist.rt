@@ -1,3 +1,5 @@
+//! Makes lists of nodes of an old tree, where such can be taken, and else of marks that are read.
+
 ghost use Rattle.std.specs.Prelude.{◌≡◌, ◌<◌, ◌≤◌, IfOk, IfSome, None, Some, true, false};
 ghost use Rattle.text_pos.specs.declared.length.Length.{Length};
 ghost use Rattle.text_pos.specs.Lengths.{plus, IsLess};

@@ -1,3 +1,5 @@
+//! Makes the tree of all marks of a source, anew or with nodes of an old tree.
+
 ghost use Rattle.std.specs.Prelude.{◌≡◌, ◌+◌, ◌≤◌, ◌<◌, length, IfOk};
 ghost use Rattle.bracket_marks.specs.MarkedLine.{marks_in, text_end};
 ghost use Rattle.mark_source.specs.Source.{AreMarked};

@@ -1,3 +1,5 @@
+//! Active lists of rules, in which each group is replaced by what it lists.
+
 ghost use Rattle.std.specs.Prelude.{◌≡◌, ◌≤◌, ◌<◌, ◌+◌, ◌++◌, length, map, reverse, All, IfOk, OnOk};
 ghost use Rattle.rule_table.specs.Views.{rule_of};
 ghost use Rattle.graph_defs.specs.ActiveLists.{active_list};

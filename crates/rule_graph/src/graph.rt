@@ -1,3 +1,5 @@
+//! The rules of a grammar as a graph: their numbers, read patterns and active lists, and its injections.
+
 ghost use Rattle.std.specs.Prelude.{◌≡◌, ◌≤◌, ◌<◌, map, length};
 ghost use Rattle.rule_table.specs.Views.{rule_of, slot_of, listed_of};
 ghost use Rattle.grammar_defs.specs.GrammarShape.{rule_count};

@@ -1,3 +1,5 @@
+//! Which rule the name in an include stands for.
+
 ghost use Rattle.std.specs.Prelude.{◌≡◌, ◌+◌, ◌<◌, ◌≤◌, ◌^◌, ℕ, List, map, IfOk, option_map};
 ghost use Rattle.std.specs.BTreeMap.{get_by_text};
 ghost use Rattle.grammar_defs.specs.GrammarShape.{rule_count, rules_of_named};

@@ -1,3 +1,5 @@
+//! Reads the keys of a grammar's injections, and puts their entries in the order in which they are searched.
+
 ghost use Rattle.std.specs.Prelude.{◌≡◌, ◌+◌, ◌<◌, ◌≤◌, ◌^◌, ◌++◌, [], ◌∷◌, length, map, IfOk, OnOk};
 ghost use Rattle.std.specs.Rc.{rc_value};
 ghost use Rattle.std.specs.List.{count_by, filter};

@@ -1,3 +1,5 @@
+//! What the members of a rule's list and its captures stand for, by numbers of rules.
+
 ghost use Rattle.std.specs.Prelude.{◌≡◌, ◌+◌, ◌<◌, ◌^◌, ◌++◌, ◌∷◌, [], ℕ, map, IfOk, OnOk, option_to_list, option_and_then, option_map, true};
 ghost use Rattle.graph_defs.specs.Includes.{target};
 ghost use Rattle.grammar_defs.specs.FileRules.{FileList};

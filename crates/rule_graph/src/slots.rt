@@ -1,3 +1,5 @@
+//! The kind of a rule, and its patterns, which are read here or are left to be read later.
+
 ghost use Rattle.std.specs.Prelude.{◌≡◌, ◌+◌, ◌<◌, ◌^◌, ◌∷◌, [], IfOk, OnOk, option_to_list};
 ghost use Rattle.std.specs.List.{count_by, filter};
 ghost use Rattle.canonical_patterns.specs.ReadTrees.{read_tree};

@@ -1,3 +1,5 @@
+//! Walks over a grammar and numbers its rules, as they are met.
+
 ghost use Rattle.std.specs.Prelude.{◌≡◌, ◌≤◌, ◌+◌, [], ◌∷◌, map, length, IfOk, OnOk, Some, true};
 ghost use Rattle.grammar_defs.specs.FileRules.{placed, nothing};
 ghost use Rattle.grammar_defs.specs.GrammarShape.{rules_of_list, rule_count};

@@ -1,3 +1,5 @@
+//! Shows the graphs and injections of worked grammars, and the limit on active lists.
+
 ghost use Rattle.std.specs.Prelude.{◌≤◌, IfOk};
 ghost use Rattle.grammar_defs.specs.GrammarShape.{rule_count};
 ghost use Rattle.grammar_json.specs.GrammarViews.{grammar_view};

@@ -1,3 +1,5 @@
+//! An injection: an entry of a selector with its priority, and the rule that is searched where it holds.
+
 use scope_defs::RuleId;
 use selectors::Selector;
 use std::rc::Rc;

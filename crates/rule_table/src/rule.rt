@@ -1,3 +1,5 @@
+//! A rule of a grammar: its kind, patterns, scope texts, captures and active list.
+
 use crate::scope_text::ScopeText;
 use pattern_tree::Pattern;
 use scope_defs::RuleId;

@@ -1,3 +1,5 @@
+//! A scope text of a rule, whose names are ready to be pushed where it has no dollar sign.
+
 ghost use Rattle.std.specs.Prelude.{◌≡◌, option_map, IfOk};
 ghost use Rattle.scope_defs.specs.Scopes.{pieces};
 ghost use Rattle.rule_table.specs.ScopeTexts.{fixed_of};

@@ -1,3 +1,5 @@
+//! The rules of a grammar by their numbers, with its injections in order.
+
 ghost use Rattle.std.specs.Prelude.{◌≡◌, ◌<◌, ◌≤◌, ◌∷◌, length, map, slice_get, All, Some};
 ghost use Rattle.rule_table.specs.Views.{rule_of, listed_of};
 ghost use Rattle.rule_table.specs.Fits.{IsRule, AreRules, IsInjection};

@@ -1,3 +1,5 @@
+//! Limits on the names of a list of scopes, the frames of a stack and the nesting of a selector.
+
 /// The most names of a list of scopes. The limits of this file are this project's own.
 pub const MOST_NAMES: u32 = 1048576;
 

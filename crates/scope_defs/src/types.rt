@@ -1,3 +1,5 @@
+//! The number of a rule, the standard types of tokens, and runs of one type in a line.
+
 /// The number of a rule of a grammar.
 #[derive(Clone, Copy, Debug, PartialEq, Eq)]
 pub struct RuleId(pub u32);

@@ -1,3 +1,5 @@
+//! Keys of scope names, and bits by which a list tells most keys that no name of it has.
+
 ghost use Rattle.std.specs.Prelude.{◌≡◌, ◌<◌};
 ghost use Rattle.scope_names.specs.Keys.{key_from, key_of, first_key, with_bit, has_bit, no_keys, with_key, may_have};
 

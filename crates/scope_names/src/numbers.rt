@@ -1,3 +1,5 @@
+//! Numbers that are made of scope names and of lists, part by part.
+
 ghost use Rattle.std.specs.Prelude.{◌≡◌};
 ghost use Rattle.scope_names.specs.Numbers.{mixed, name_number};
 

@@ -1,3 +1,5 @@
+//! A scope name with the type that it sets, and the numbers that are made of it.
+
 ghost use Rattle.std.specs.Prelude.{◌≡◌, IfOk};
 ghost use Rattle.scope_defs.specs.StandardType.{type_of_name};
 ghost use Rattle.scope_names.specs.Keys.{key_of, first_key};

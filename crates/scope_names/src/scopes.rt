@@ -1,3 +1,5 @@
+//! The names of the scopes at a place, in lists that share what they have in common.
+
 ghost use Rattle.std.specs.Prelude.{◌≡◌, ◌+◌, ◌-◌, ◌<◌, ◌≤◌, ◌↔◌, [], ◌++◌, false, length, take, reverse, slice_get, slice_index, fold, Some, IfOk, IsTrue};
 ghost use Rattle.std.specs.List.{filter_map};
 ghost use Rattle.std.specs.Iterator.{YieldsFirstBy, item_count};

@@ -1,3 +1,5 @@
+//! The names of a scope text, which are read once and shared by lists of scopes.
+
 ghost use Rattle.std.specs.Prelude.{◌≡◌, ◌<◌, ◌≤◌, [], ◌∷◌, ◌++◌, length, take, filter, slice_get, Some, IfOk, OnOk};
 ghost use Rattle.scope_defs.specs.Scopes.{has_characters, pieces};
 

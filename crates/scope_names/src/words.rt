@@ -1,3 +1,5 @@
+//! The standard type that a scope name sets by a word in it.
+
 ghost use Rattle.std.specs.Prelude.{◌≡◌, ◌≤◌, length, drop, codes};
 ghost use Rattle.scope_defs.specs.StandardType.{is_word_char, has_word, type_at, type_of_name};
 

@@ -1,3 +1,5 @@
+//! The text of a frame's end with a begin's captures in it, which copies share.
+
 ghost use Rattle.std.specs.Prelude.{◌≡◌, ◌↔◌, Some, None, IfOk, IsTrue};
 ghost use Rattle.std.specs.Option.{option_copied};
 ghost use Rattle.scope_stack.specs.Numbers.{end_number};

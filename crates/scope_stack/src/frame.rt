@@ -1,3 +1,5 @@
+//! A frame: an open rule with its end, its scopes and where it was entered.
+
 ghost use Rattle.std.specs.Prelude.{◌≡◌, ◌↔◌, IfOk, IsTrue};
 ghost use Rattle.scope_defs.specs.Frames.{forgotten};
 

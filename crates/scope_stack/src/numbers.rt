@@ -1,3 +1,5 @@
+//! The number that is made of the frames of a stack.
+
 ghost use Rattle.std.specs.Prelude.{◌≡◌};
 ghost use Rattle.scope_stack.specs.Numbers.{frame_number};
 

@@ -1,3 +1,5 @@
+//! Stacks of frames, which share what they have in common.
+
 ghost use Rattle.std.specs.Prelude.{◌≡◌, ◌<◌, ◌≤◌, ◌↔◌, [], IfOk, IsTrue};
 ghost use Rattle.std.specs.Option.{option_copied};
 ghost use Rattle.scope_defs.specs.Frames.{frames, depth, on, stack_of, forgotten_all};

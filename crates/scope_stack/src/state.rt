@@ -1,3 +1,5 @@
+//! The state at a line's start or end: its stack of frames, and whether the line is the text's first.
+
 ghost use Rattle.std.specs.Prelude.{◌≡◌, ◌↔◌, IfOk, IsTrue};
 ghost use Rattle.scope_defs.specs.Frames.{bare};
 

@@ -1,3 +1,5 @@
+//! A token of a line, with its columns and scopes, and the list of a line's tokens.
+
 ghost use Rattle.std.specs.Prelude.{◌≡◌, [], ◌∷◌, ◌++◌, IfOk, OnOk, OnErr};
 
 use scope_names::Scopes;

@@ -1,3 +1,5 @@
+//! The text of a capture of the last hit, and the dots at the front of a text.
+
 ghost use Rattle.std.specs.Prelude.{◌≡◌, ℕ, ◌^◌, ◌≤◌, length, drop, min, nat_eq, IfSome};
 ghost use Rattle.std.specs.List.{prefix_len};
 ghost use Rattle.pattern_defs.specs.Attempt.{capture_of};

@@ -1,3 +1,5 @@
+//! The digits at the front of a text, and the number that they stand for.
+
 ghost use Rattle.std.specs.Prelude.{◌≡◌, ℕ, ◌^◌, min, chars, IfOk};
 ghost use Rattle.std.specs.Char.{is_ascii_digit};
 ghost use Rattle.std.specs.List.{prefix_len};

@@ -1,3 +1,5 @@
+//! Reads the forms of a scope text that stand for captures, with or without a change of case.
+
 ghost use Rattle.std.specs.Prelude.{◌≡◌, ◌+◌, ◌≤◌, length, drop, IfSome};
 ghost use Rattle.std.specs.Option.{option_map};
 ghost use Rattle.line_defs.specs.ScopeTexts.{digits_at, short_form, cased_form, form_behind};

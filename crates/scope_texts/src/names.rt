@@ -1,3 +1,5 @@
+//! What a scope text stands for after a hit, with captured texts for its forms.
+
 ghost use Rattle.std.specs.Prelude.{◌≡◌, [], ◌∷◌, ℕ, ◌+◌, ◌≤◌, ◌<◌, ◌++◌, length, drop, chars, encode_utf8_all, string_bytes, IfOk, IfSome, OnOk, nat_le, if◌then◌else◌};
 ghost use Rattle.pattern_defs.specs.Attempt.{capture_of};
 ghost use Rattle.onig_match.specs.Works.{IsPart};

@@ -1,3 +1,5 @@
+//! Reads a script line as a command: edits, a question, or a turn in the background.
+
 ghost use Rattle.std.specs.Prelude.{◌≡◌, IfOk, IsErrOf, option_map, Some, None};
 ghost use Rattle.std.specs.Str.{chars};
 ghost use Rattle.serde_json.specs.View.{view, items_view};

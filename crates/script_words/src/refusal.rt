@@ -1,3 +1,5 @@
+//! Why a script line is refused, in the order of the tests.
+
 /// Why a script line is refused, in the order of the tests: the words of a reply. The causes are this project's own.
 #[derive(Clone, Copy, Debug, PartialEq, Eq)]
 pub enum Refusal {

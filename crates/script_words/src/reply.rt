@@ -1,3 +1,5 @@
+//! Writes the line of a reply to a script line, as JSON.
+
 ghost use Rattle.std.specs.Prelude.{◌≡◌, map, IfOk, encode_utf8_all};
 ghost use Rattle.serde_json.specs.Data.{array, string, boolean, object, member, no_members};
 ghost use Rattle.serde_json.specs.View.{view, items_of};

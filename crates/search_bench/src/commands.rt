@@ -1,3 +1,5 @@
+//! Reads commands, and tells counts of matches, and times where they are wanted.
+
 ghost use Rattle.std.specs.Prelude.{◌≡◌, ◌≤◌, All};
 
 use crate::given::Given;

@@ -1,3 +1,5 @@
+//! The characters of a command's field, some of which are written with a backslash.
+
 use std::alloc::{AllocError, Global};
 
 /// The characters of a field, of which some are written by two.

@@ -1,3 +1,5 @@
+//! The patterns and lines that were given for searches.
+
 use crate::fields::{plain, plain_text};
 use onig_parse::{PatternReader, read_pattern};
 use onig_scan::Scanner;

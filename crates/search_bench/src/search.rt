@@ -1,3 +1,5 @@
+//! Finds the matches of a scanner in the given lines, one behind the other.
+
 ghost use Rattle.std.specs.Prelude.{◌≡◌, ◌≤◌, ◌<◌, ◌^◌, All, length};
 
 use crate::tally::{Tally, ends, mixed};

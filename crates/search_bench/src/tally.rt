@@ -1,3 +1,5 @@
+//! What searches found: counts of them, and a number made of all that was matched.
+
 use onig_scan::Place;
 
 /// What searches found: how many there were, how many of them hit and how many were spent, and a number made of all

@@ -1,3 +1,5 @@
+//! The law that a text that is no selector is refused at its first fault, or where it nests too deep.
+
 ghost use Rattle.std.specs.Prelude.{◌≡◌, ℕ, List, Err};
 ghost use Rattle.scope_defs.specs.SelectorSyntax.{read_selector};
 ghost use Rattle.selectors.specs.RefusalLaws.{IsFirstFault};

@@ -1,3 +1,5 @@
+//! The keys of names that scopes need for an entry of a selector to hold.
+
 ghost use Rattle.std.specs.Prelude.{◌≡◌, ◌-◌, ◌<◌, ◌^◌, ◌++◌, [], false, map, IfOk, IfSome, OnOk};
 ghost use Rattle.scope_names.specs.Keys.{key_of};
 ghost use Rattle.selectors.specs.Needs.{LacksOne, LacksOfEach, SignsNeed, keys_at, most_held, most_behind};

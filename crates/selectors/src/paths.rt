@@ -1,3 +1,5 @@
+//! Whether the names of a selector's path match scopes in order.
+
 ghost use Rattle.std.specs.Prelude.{◌≡◌, ◌-◌, ◌<◌, ◌≤◌, [], length, get_or};
 ghost use Rattle.scope_defs.specs.Selectors.{name_matches, path_holds};
 

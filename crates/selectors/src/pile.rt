@@ -1,3 +1,5 @@
+//! The levels of parentheses that are open while a selector is read.
+
 ghost use Rattle.std.specs.Prelude.{◌≡◌, ◌↔◌, [], ◌∷◌, IsTrue, OnOk};
 ghost use Rattle.selectors.specs.Piles.{IsPopped};
 

@@ -1,3 +1,5 @@
+//! Reads the text of a selector, character by character, as entries of signs.
+
 ghost use Rattle.std.specs.Prelude.{◌≡◌, ◌+◌, ◌≤◌, ◌&&◌, ◌||◌, false, Some, None, IfOk};
 ghost use Rattle.scope_defs.specs.SelectorSyntax.{begins_name, sign_of, priority_by};
 ghost use Rattle.scope_defs.specs.StandardType.{is_word_char};

@@ -1,3 +1,5 @@
+//! Why a text is no selector.
+
 ghost use Rattle.std.specs.Prelude.{◌≡◌};
 ghost use Rattle.selectors.specs.declared.refusal.SelectorRefusal.TheVariants.{Memory};
 

@@ -1,3 +1,5 @@
+//! A selector of scopes: how it is read, its entries with their priorities, and whether they hold.
+
 ghost use Rattle.std.specs.Prelude.{◌≡◌, ◌<◌, length, slice_index_or, IfOk, IfSome, MatchResult};
 ghost use Rattle.scope_defs.specs.Selectors.{holds};
 ghost use Rattle.scope_defs.specs.SelectorSyntax.{entries_of, entry_at};

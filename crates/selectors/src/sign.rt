@@ -1,3 +1,5 @@
+//! The signs of which an entry of a selector is kept: paths, parentheses and partings of alternatives.
+
 use text_pos::{Bytes, Items};
 
 /// The names of a path.

@@ -1,3 +1,5 @@
+//! Whether the signs of an entry hold of scopes, read one after the other.
+
 ghost use Rattle.std.specs.Prelude.{◌≡◌, ◌-◌, ◌<◌, ◌^◌};
 ghost use Rattle.selectors.specs.Verdicts.{behind, behind_failed, joined, run, is_true, depth};
 

@@ -1,3 +1,5 @@
+//! What a file that is named on the command line is read as.
+
 /// What a file that the words name is read as. The files are opened in this order.
 #[derive(Clone, Copy, Debug, PartialEq, Eq)]
 pub enum FileKind {

@@ -1,3 +1,5 @@
+//! The most bytes of a script, and the usual, least and most values of the command line's options.
+
 /// As many bytes of script as are taken at most: 2^32.
 pub const MOST_SCRIPT_BYTES: u64 = 4_294_967_296;
 

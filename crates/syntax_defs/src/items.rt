@@ -1,3 +1,5 @@
+//! Items of a pattern text, before it is known which groups the text has, and what stands at a place of it.
+
 use pattern_defs::{Anchor, ListId, ListIds};
 
 /// The options that hold at a place of a pattern text: letters in any ASCII case, the dot for any character, and

@@ -1,3 +1,5 @@
+//! Limits on a pattern text: its characters, nesting, repeats, intervals and lookbehinds.
+
 /// The most characters of a pattern text.
 pub const MOST_PATTERN_CHARS: usize = 65_536;
 

@@ -1,3 +1,5 @@
+//! Why a text is no pattern.
+
 ghost use Rattle.std.specs.Prelude.{◌≡◌};
 ghost use Rattle.syntax_defs.specs.declared.refusal.PatternRefusal.TheVariants.{Memory};
 

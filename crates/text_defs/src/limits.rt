@@ -1,3 +1,5 @@
+//! Limits on the characters and lines of a text, and on the bytes of a file and of a script line.
+
 /// The most characters that a text may have, its line ends among them: 2^22.
 pub const MOST_CHARS: u64 = 4_194_304;
 

@@ -1,3 +1,5 @@
+//! Makes the edits that follow a generated text.
+
 ghost use Rattle.std.specs.Prelude.{◌≡◌, ◌∷◌, [], ◌<◌, ◌≤◌, IfOk};
 ghost use Rattle.std.specs.Str.{chars};
 ghost use Rattle.generator_defs.specs.GeneratedText.{deletion, generated_edit, inserted, insertion};

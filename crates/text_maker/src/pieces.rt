@@ -1,3 +1,5 @@
+//! The pieces of which generated texts and edits are made: brackets, a letter and a space.
+
 ghost use Rattle.std.specs.Prelude.{◌≡◌, ◌<◌};
 ghost use Rattle.generator_defs.specs.GeneratedText.{piece};
 

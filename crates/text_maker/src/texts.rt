@@ -1,3 +1,5 @@
+//! Makes the generated text of a number of lines.
+
 ghost use Rattle.std.specs.Prelude.{◌≡◌, ◌++◌, ◌<◌, ◌≤◌, true, IfOk, OnOk};
 ghost use Rattle.line_text.specs.Refusals.{is_memory};
 ghost use Rattle.generator_defs.specs.GeneratedText.{generated_line, generated_text};

@@ -1,3 +1,5 @@
+//! Shows that generated texts and edits are as worked out, and that the largest text has all its lines.
+
 ghost use Rattle.std.specs.Prelude.{◌≤◌};
 
 use generator_defs::GENERATED_EDITS;

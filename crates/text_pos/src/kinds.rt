@@ -1,3 +1,5 @@
+//! Sets of kinds of brackets, as the bits of a number.
+
 ghost use Rattle.std.specs.Prelude.{◌≡◌, ℕ, ◌^◌, ◌<◌, ◌&&◌, ◌||◌, ◌==◌, ◌↔◌, Bool, false, not, IsTrue};
 ghost use Rattle.text_pos.specs.KindSet.{is_set, has_kind, only};
 

@@ -1,3 +1,5 @@
+//! Lengths of pieces of text, places in a text and spans between them.
+
 ghost use Rattle.std.specs.Prelude.{◌≡◌, ◌+◌, ◌-◌, ◌^◌, ◌<◌, ◌↔◌, IsTrue};
 ghost use Rattle.text_pos.specs.Lengths.{plus, IsLess};
 

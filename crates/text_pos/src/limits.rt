@@ -1,3 +1,5 @@
+//! The limits that the command line sets: on nesting, visits, long lines and tabs.
+
 /// The limits that the command line sets.
 #[derive(Clone, Copy, Debug, PartialEq, Eq)]
 pub struct Limits {

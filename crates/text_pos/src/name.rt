@@ -1,3 +1,5 @@
+//! Short texts such as names, whose bytes clauses see.
+
 ghost use Rattle.std.specs.Prelude.{◌≡◌, List, ℕ, string_bytes, IfOk};
 
 use std::alloc::{AllocError, Global};

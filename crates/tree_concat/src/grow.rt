@@ -1,3 +1,5 @@
+//! Puts together two nodes of a tree, one of which may be higher, as one or two nodes of one height.
+
 ghost use Rattle.std.specs.Prelude.{◌≡◌, ◌+◌, ◌++◌, ◌≤◌, IfOk};
 ghost use Rattle.tree_defs.specs.Shape.{height, leaves_of, RunsFit};
 ghost use Rattle.tree_concat.specs.Joined.{some_leaves, SomeHigh};

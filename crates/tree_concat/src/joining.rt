@@ -1,3 +1,5 @@
+//! Joins nodes to one tree of all of them, in order.
+
 ghost use Rattle.std.specs.Prelude.{◌≡◌, ◌++◌, ◌<◌, IfOk, length};
 ghost use Rattle.tree_defs.specs.Shape.{leaves_of, all_leaves, RunsFit, IsEven};
 ghost use Rattle.bracket_ast.specs.Shapes.{or_nothing};

@@ -1,3 +1,5 @@
+//! Joins nodes of one height to one node, level by level.
+
 ghost use Rattle.std.specs.Prelude.{◌≡◌, ◌+◌, ◌∷◌, ◌++◌, ◌<◌, ◌≤◌, IfOk, length};
 ghost use Rattle.tree_defs.specs.Shape.{height, leaves_of, all_leaves, RunsFit};
 ghost use Rattle.bracket_ast.specs.Shapes.{nows};

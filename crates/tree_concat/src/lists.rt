@@ -1,3 +1,5 @@
+//! Makes lists of two or three nodes, and tells the children of a list.
+
 ghost use Rattle.std.specs.Prelude.{◌≡◌, ◌+◌, ◌++◌, ◌<◌, IfOk};
 ghost use Rattle.tree_defs.specs.Shape.{height, leaves_of, RunsFit};
 ghost use Rattle.bracket_ast.specs.Shapes.{Sound};

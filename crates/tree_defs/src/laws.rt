@@ -1,3 +1,5 @@
+//! Laws of trees of brackets: their rows are those of the pairing, and when nodes can be reused.
+
 ghost use Rattle.tree_defs.specs.Reuse.{WalkLaw, ReuseLaw};
 ghost use Rattle.tree_defs.specs.Rows.{RowLaw};
 ghost use Rattle.tree_defs.specs.Cuts.{CutLaw};

@@ -1,3 +1,5 @@
+//! Shows that descents of a tree answer about places and ranges of lines as filters of rows do.
+
 ghost use Rattle.std.specs.Prelude.{◌<◌, ◌^◌, length};
 ghost use Rattle.bracket_ast.specs.Shapes.{or_nothing};
 ghost use Rattle.text_defs.specs.Text.{line_count};

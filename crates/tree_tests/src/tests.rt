@@ -1,3 +1,5 @@
+//! Shows what lists and pairs keep of their nodes, how high joined trees are, and that large ones are dropped.
+
 ghost use Rattle.std.specs.Prelude.{◌≡◌, ◌+◌, ◌<◌, ◌^◌, IfOk, replicate};
 ghost use Rattle.tree_defs.specs.Shape.{all_leaves, leaves_of, RunsFit};
 ghost use Rattle.tree_concat.specs.Joined.{some_leaves};
