@@ -1,3 +1,5 @@
+//! How many frames may be open, and how deep runs over captures go.
+
 /// A begin rule pushes a frame where fewer are open. The limits of this file are this project's own.
 pub const MOST_OPEN: u32 = 1000;
 

@@ -1,3 +1,5 @@
+//! A list that shares its pieces with other lists.
+
 ghost use Rattle.std.specs.Prelude.{◌≡◌, ◌+◌, ◌*◌, ◌-◌, ◌<◌, ◌≤◌, [], ◌∷◌, ◌++◌, length, take, drop, slice_index_or, slice_set, IfOk, OnOk, OnErr};
 ghost use Rattle.line_list.specs.Parts.{items_of, IsLaid};
 

@@ -1,3 +1,5 @@
+//! The pieces of a list.
+
 ghost use Rattle.std.specs.Prelude.{◌≡◌, ◌+◌, ◌*◌, ◌<◌, ◌≤◌, [], ◌++◌, length, take, drop, slice_index_or, IfOk, IfErr, OnOk, OnErr};
 ghost use Rattle.line_list.specs.Parts.{items_of, IsLaid};
 

@@ -1,3 +1,5 @@
+//! What can be had twice at little cost.
+
 ghost use Rattle.std.specs.Prelude.{◌≡◌, IfOk};
 
 use std::alloc::{AllocError, Global};

@@ -1,3 +1,5 @@
+//! Frames without the places where they were entered and without their anchors.
+
 ghost use Rattle.std.specs.Prelude.{◌≡◌, ◌↔◌, IsTrue, IfOk};
 ghost use Rattle.scope_defs.specs.Frames.{forgotten, forgotten_all};
 

@@ -1,3 +1,5 @@
+//! The result of a line: the while pass, the run behind it, and the tokens within the line.
+
 ghost use Rattle.std.specs.Prelude.{◌≡◌, ℕ, ◌+◌, ◌<◌, ◌≤◌, ◌^◌, List, length, map, IfOk, OnOk};
 ghost use Rattle.line_defs.specs.declared.limits.TheConstants.{MOST_LEVELS};
 ghost use Rattle.line_defs.specs.Tokens.{whole, within_line};

@@ -1,3 +1,5 @@
+//! What gives the tokens of lines by the rules of a grammar, or of none.
+
 ghost use Rattle.std.specs.Prelude.{◌≡◌, ◌≢◌, List, [], ℕ, ◌-◌, ◌<◌, ◌≤◌, ◌^◌, length, None, Some, IfOk, OnOk};
 ghost use Rattle.rule_defs.specs.Rules.{BeginEnd};
 ghost use Rattle.line_search.specs.Machines.{kind_at};

@@ -1,3 +1,5 @@
+//! The while pass, which asks the frames of begin/while rules from the outermost inward.
+
 ghost use Rattle.std.specs.Prelude.{◌≡◌, ◌≢◌, ℕ, ◌<◌, ◌≤◌, List, [], ◌∷◌, ◌++◌, length, reverse, slice_get, MatchOption, IfOk, OnOk, Some};
 ghost use Rattle.scope_defs.specs.Frames.{Frame as OpenRule, frames};
 ghost use Rattle.rule_defs.specs.Rules.{BeginWhile};

@@ -1,3 +1,5 @@
+//! The captures of a match that are open, and their scopes.
+
 ghost use Rattle.std.specs.Prelude.{◌≡◌, [], ◌∷◌, OnOk};
 ghost use Rattle.line_defs.specs.Captures.{closed_all, innermost, closed_to};
 ghost use Rattle.line_defs.specs.Tokens.{put};

@@ -1,3 +1,5 @@
+//! The names that a scope text stands for after a hit.
+
 ghost use Rattle.std.specs.Prelude.{◌≡◌, ℕ, length, IfOk, IfSome};
 ghost use Rattle.std.specs.Option.{option_copied};
 ghost use Rattle.pattern_defs.specs.Attempt.{capture_of};

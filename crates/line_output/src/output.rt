@@ -1,3 +1,5 @@
+//! The tokens told so far, and whether an attempt was spent.
+
 ghost use Rattle.std.specs.Prelude.{◌≡◌, OnOk};
 ghost use Rattle.line_defs.specs.Tokens.{nothing_told, put, spent};
 

@@ -1,3 +1,5 @@
+//! What the capture entries of a match take in the last hit.
+
 ghost use Rattle.std.specs.Prelude.{◌≡◌, ℕ, ◌++◌, length, IfOk, IfSome, OnOk};
 ghost use Rattle.pattern_defs.specs.Attempt.{capture_of};
 ghost use Rattle.onig_match.specs.Works.{IsPart};

@@ -1,3 +1,5 @@
+//! What a line gives: its tokens, the next line's start, and whether an attempt was spent.
+
 ghost use Rattle.std.specs.Prelude.{◌≡◌};
 
 use scope_stack::{State, TokenRows};

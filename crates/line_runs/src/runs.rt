@@ -1,3 +1,5 @@
+//! The trait of what gives the tokens of a line from a start.
+
 ghost use Rattle.std.specs.Prelude.{◌≡◌, ℕ, ◌+◌, ◌≤◌, List, length, IfOk};
 ghost use Rattle.scope_defs.specs.Frames.{Start, bare};
 ghost use Rattle.line_defs.specs.Line.{LineResult};

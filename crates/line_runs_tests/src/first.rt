@@ -1,3 +1,5 @@
+//! The result of a line that is the first of its text.
+
 ghost use Rattle.std.specs.Prelude.{◌≡◌, ◌≤◌, length, IfOk};
 ghost use Rattle.scope_defs.specs.Frames.{bare};
 ghost use Rattle.line_runs.specs.Runs.{bare_result};

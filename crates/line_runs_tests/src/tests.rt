@@ -1,3 +1,5 @@
+//! Tests that show that another object gives the tokens of a line.
+
 ghost use Rattle.std.specs.Prelude.{◌≡◌, ◌<◌};
 
 use crate::first::first_line;

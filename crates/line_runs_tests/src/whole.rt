@@ -1,3 +1,5 @@
+//! An object that gives each line as one token without scopes.
+
 ghost use Rattle.std.specs.Prelude.{◌≡◌, IfOk};
 ghost use Rattle.scope_defs.specs.Frames.{Start};
 

@@ -1,3 +1,5 @@
+//! Patterns that are searched together, and two lists of them searched as one.
+
 ghost use Rattle.std.specs.Prelude.{◌≡◌, ℕ, ◌<◌, ◌≤◌, ◌^◌, ◌++◌, ◌↔◌, All, length, map, Some, IfOk, IfSome, IsTrue};
 ghost use Rattle.pattern_defs.specs.Attempt.{capture_of};
 ghost use Rattle.line_defs.specs.Search.{scan};

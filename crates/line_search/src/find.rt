@@ -1,3 +1,5 @@
+//! What a search finds: a match, and what its pattern belongs to.
+
 use scope_defs::RuleId;
 
 /// What a pattern belongs to: the end of the frame, or a rule.

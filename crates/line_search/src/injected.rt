@@ -1,3 +1,5 @@
+//! The injections of a table, which of them hold of scopes, and what they find.
+
 ghost use Rattle.std.specs.Prelude.{◌≡◌, ℕ, ◌+◌, ◌<◌, ◌≤◌, ◌^◌, ◌++◌, [], ◌∷◌, ◌↔◌, All, false, length, map, slice_index_or, Option, None, IfOk, OnOk, IsTrue};
 ghost use Rattle.std.specs.Rc.{rc_value};
 ghost use Rattle.rule_table.specs.Views.{listed_of};

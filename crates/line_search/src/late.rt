@@ -1,3 +1,5 @@
+//! Ends whose texts are made of captures, of which the last one read is kept.
+
 ghost use Rattle.std.specs.Prelude.{◌≡◌, [], unwrap_or, None, Some, option_and_then, IfOk, IfSome, OnOk};
 ghost use Rattle.std.specs.Option.{option_copied};
 ghost use Rattle.canonical_patterns.specs.Canonical.{canonical};

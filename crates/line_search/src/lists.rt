@@ -1,3 +1,5 @@
+//! The patterns of a rule that stand before a line is run.
+
 ghost use Rattle.std.specs.Prelude.{◌≡◌, ◌<◌, ◌++◌, All, length, map, slice_get, Some, IfOk, OnOk, option_map};
 ghost use Rattle.rule_table.specs.Fits.{IsRule};
 ghost use Rattle.rule_table.specs.Views.{rule_of, slot_of};

@@ -1,3 +1,5 @@
+//! The search over the rules of a table, for a frame and its injections.
+
 ghost use Rattle.std.specs.Prelude.{◌≡◌, ℕ, ◌<◌, ◌≤◌, ◌^◌, ◌↔◌, length, IfOk, IsTrue};
 ghost use Rattle.std.specs.Rc.{rc_value};
 ghost use Rattle.rule_defs.specs.Rules.{BeginWhile};

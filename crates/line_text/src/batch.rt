@@ -1,3 +1,5 @@
+//! A text after a batch of edits, and the lines that the batch carries.
+
 ghost use Rattle.std.specs.Prelude.{◌≡◌, ◌≢◌, ◌+◌, ◌-◌, ◌≤◌, ℕ, Option, Some, None, ◌++◌, length, take, drop, true, false, IfOk, IfErr, OnOk, OnErr, ◌&&◌, not};
 ghost use Rattle.text_pos.specs.declared.length.Pos.{Pos};
 ghost use Rattle.text_defs.specs.Batch.{edited, edit_fault, batch_refusal, is_in_range, is_in_order};

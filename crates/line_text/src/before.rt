@@ -1,3 +1,5 @@
+//! What the next character adds to a text, by what stood before it.
+
 ghost use Rattle.std.specs.Prelude.{◌≡◌, ◌≢◌, List, ℕ, ◌∷◌, ◌++◌, IfSome};
 ghost use Rattle.std.specs.Option.{option_to_list};
 ghost use Rattle.line_text.specs.LineEnds.{normed};

@@ -1,3 +1,5 @@
+//! The lines that a batch carries, in runs.
+
 ghost use Rattle.std.specs.Prelude.{◌≡◌, ◌++◌, [], OnOk};
 
 use std::alloc::{AllocError, Global};

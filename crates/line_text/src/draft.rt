@@ -1,3 +1,5 @@
+//! A text that is being put together.
+
 ghost use Rattle.std.specs.Prelude.{◌≡◌, ◌≢◌, ◌+◌, ◌-◌, ◌≤◌, ℕ, List, [], ◌∷◌, ◌++◌, length, take, drop, OnOk, OnErr, IfOk};
 ghost use Rattle.std.specs.Str.{chars};
 ghost use Rattle.text_defs.specs.Text.{line_count, most_chars, most_lines};

@@ -1,3 +1,5 @@
+//! An edit, and why a batch of edits is refused.
+
 ghost use Rattle.std.specs.Prelude.{◌≡◌, IfOk};
 ghost use Rattle.std.specs.Str.{chars};
 

@@ -1,3 +1,5 @@
+//! A list of edits.
+
 use crate::Edit;
 use text_pos::Items;
 

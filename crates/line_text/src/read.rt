@@ -1,3 +1,5 @@
+//! Reading a text from bytes, and why a file is no text.
+
 ghost use Rattle.std.specs.Prelude.{◌≡◌, ℕ, ◌<◌, ◌≤◌, true, false, length, IfOk, OnOk, IfErr};
 ghost use Rattle.std.specs.Str.Lossy.{utf8_valid_len};
 ghost use Rattle.text_defs.specs.Text.{text_of, is_text, is_utf8, line_count, most_chars, most_lines};

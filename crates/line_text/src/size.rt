@@ -1,3 +1,5 @@
+//! How many characters and lines a text has.
+
 ghost use Rattle.std.specs.Prelude.{◌≡◌, ◌+◌, ◌==◌, if◌then◌else◌};
 ghost use Rattle.std.specs.Str.{chars};
 ghost use Rattle.text_defs.specs.Batch.{counted};

@@ -1,3 +1,5 @@
+//! A text and its lines.
+
 ghost use Rattle.std.specs.Prelude.{◌≡◌, ◌≢◌, ◌++◌, ◌<◌, ◌≤◌, All, length, IfOk};
 ghost use Rattle.text_defs.specs.Text.{line_count, line_of};
 ghost use Rattle.text_defs.specs.Place.{holds};

@@ -1,3 +1,5 @@
+//! What a run goes over.
+
 use rule_table::RuleTable;
 use std::alloc::Global;
 use text_pos::Limits;

@@ -1,3 +1,5 @@
+//! The state of a run over a text.
+
 ghost use Rattle.std.specs.Prelude.{◌≡◌, ◌<◌, ◌≤◌, ◌^◌, [], length, OnOk, IfOk, Some};
 ghost use Rattle.scope_defs.specs.Frames.{on, depth, frames};
 ghost use Rattle.line_defs.specs.Frames.{popped};

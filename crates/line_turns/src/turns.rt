@@ -1,3 +1,5 @@
+//! The turns of a run, and the captures of a match told in it.
+
 ghost use Rattle.std.specs.Prelude.{◌≡◌, ℕ, ◌+◌, ◌*◌, ◌-◌, ◌<◌, ◌≤◌, ◌^◌, List, [], length, map, All, OnOk, IfOk, IfSome, IsTrue, Some, true, false, ◌==◌, ◌&&◌};
 ghost use Rattle.pattern_defs.specs.Attempt.{Captures, capture_of};
 ghost use Rattle.onig_match.specs.Works.{IsPart};

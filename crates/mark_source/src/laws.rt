@@ -1,3 +1,5 @@
+//! A law: the lines of a text with its marks are lines that a source may have.
+
 ghost use Rattle.mark_source.specs.TextLaws.{LinesAreMarked, TextsAreMarked, UsualTextsHaveKinds};
 
 /// The lines of a text with its marks are lines that a source may have.

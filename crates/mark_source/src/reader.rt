@@ -1,3 +1,5 @@
+//! The marks of some lines from a place on, one after the other.
+
 ghost use Rattle.std.specs.Prelude.{◌≡◌, ℕ, ◌+◌, ◌<◌, ◌≤◌, length};
 ghost use Rattle.mark_source.specs.Source.{Source, AreMarked, is_before};
 ghost use Rattle.mark_source.specs.Reading.{is_passed};

@@ -1,3 +1,5 @@
+//! The trait of all that a parse sees of the marks of a text.
+
 ghost use Rattle.std.specs.Prelude.{◌≡◌, ℕ, ◌+◌, ◌<◌, ◌≤◌, length, false};
 ghost use Rattle.bracket_marks.specs.MarkedLine.{text_end};
 ghost use Rattle.mark_source.specs.Source.{Source, ahead, first, start_of, at_place, behind, steps_for, is_before, AreMarked};

@@ -1,3 +1,5 @@
+//! The first mark from a place on.
+
 ghost use Rattle.std.specs.Prelude.{◌≡◌, ◌+◌, ◌<◌, ◌≤◌, length, drop, suc, true, false, nat_lt, IfSome};
 ghost use Rattle.std.specs.List.Sorted.{IsNonDecreasingBy, IsPartitionPoint};
 ghost use Rattle.bracket_marks.specs.MarkedLine.{marks_in};

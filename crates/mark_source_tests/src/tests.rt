@@ -1,3 +1,5 @@
+//! Tests that show that marks come in order from a place on.
+
 ghost use Rattle.std.specs.Prelude.{◌≡◌, ◌<◌, IfOk, length};
 ghost use Rattle.mark_source.specs.Source.{AreMarked};
 

@@ -1,3 +1,5 @@
+//! Reading the nodes of a tree at rising offsets.
+
 ghost use Rattle.std.specs.Prelude.{◌≡◌, IfOk};
 ghost use Rattle.text_pos.specs.Lengths.{IsLess};
 ghost use Rattle.tree_defs.specs.Shape.{no_length};

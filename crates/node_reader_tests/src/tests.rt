@@ -1,3 +1,5 @@
+//! Tests that show that a reader and a walk of a tree find the same nodes.
+
 ghost use Rattle.std.specs.Prelude.{◌≡◌, ◌<◌};
 ghost use Rattle.text_pos.specs.Lengths.{IsLess};
 

@@ -1,3 +1,5 @@
+//! Reading a class from its bracket on.
+
 ghost use Rattle.std.specs.Prelude.{◌≡◌, ◌<◌, ◌≤◌, ◌+◌, ◌-◌, true, length, drop, slice_get, IfOk, if◌then◌else◌};
 ghost use Rattle.char_sets.specs.Ranges.{IsSetOf};
 ghost use Rattle.syntax_defs.specs.Reading.{Gives};

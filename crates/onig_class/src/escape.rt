@@ -1,3 +1,5 @@
+//! Reading an escape: one character, or a set of characters.
+
 ghost use Rattle.std.specs.Prelude.{◌≡◌, ◌<◌, ◌≤◌, ◌+◌, ℕ, List, length, drop, slice_get, IfOk, IfSome};
 ghost use Rattle.syntax_defs.specs.Reading.{Gives};
 ghost use Rattle.syntax_defs.specs.Escapes.{control_of, set_of, closing, property_to, property_at, longer_escape, escape_by, behind_backslash, escape_at};

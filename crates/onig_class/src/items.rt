@@ -1,3 +1,5 @@
+//! Items of a class: one character, an escape, or a named bracket.
+
 ghost use Rattle.std.specs.Prelude.{◌≡◌, ◌<◌, ◌≤◌, ◌+◌, ℕ, List, length, drop, IfOk, IfErr, IfSome};
 ghost use Rattle.std.specs.List.{prefix_len};
 ghost use Rattle.char_sets.specs.Named.{is_word};

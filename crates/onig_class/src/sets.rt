@@ -1,3 +1,5 @@
+//! Sets of characters: ranges, single characters, the dot, and named sets.
+
 ghost use Rattle.std.specs.Prelude.{◌≤◌, ℕ, Bool, IfOk};
 ghost use Rattle.char_sets.specs.Case.{is_from_to};
 ghost use Rattle.char_sets.specs.Named.{in_named};

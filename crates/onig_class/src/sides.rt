@@ -1,3 +1,5 @@
+//! The characters of a class so far, as unions and what they have together.
+
 ghost use Rattle.std.specs.Prelude.{◌≡◌, ◌<◌, ◌||◌, ℕ, Bool, IfOk, OnOk};
 ghost use Rattle.char_sets.specs.Ranges.{in_set, IsSetOf};
 ghost use Rattle.syntax_defs.specs.Classes as defs;

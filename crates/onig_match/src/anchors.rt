@@ -1,3 +1,5 @@
+//! Whether an anchor holds at a place.
+
 ghost use Rattle.std.specs.Prelude.{◌≡◌, ◌<◌, ◌≤◌, ◌^◌, ◌==◌, length, slice_get, Option, Some, None, IsSome};
 ghost use Rattle.char_sets.specs.Named.{is_word};
 ghost use Rattle.pattern_defs.specs.Patterns.{NodeLists};

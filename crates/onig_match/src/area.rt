@@ -1,3 +1,5 @@
+//! The state of an attempt besides its place.
+
 ghost use Rattle.std.specs.Prelude.{◌≡◌, ◌+◌, ◌-◌, ◌<◌, ◌≤◌, ◌∷◌, ◌==◌, ◌&&◌, nat_lt, not, length, Some};
 ghost use Rattle.pattern_defs.specs.Attempt.{Again, is_greatest};
 ghost use Rattle.onig_match.specs.Machine.{chain, todo_of, front_todo, captures_at, kept, acted, with_entry};

@@ -1,3 +1,5 @@
+//! Where a back reference leads.
+
 ghost use Rattle.std.specs.Prelude.{◌≡◌, ◌+◌, ◌<◌, ◌≤◌, ◌^◌, ◌-◌, length, drop, nat_eq, slice_range, map};
 ghost use Rattle.std.specs.List.{starts_with};
 ghost use Rattle.std.specs.Char.{to_ascii_lowercase};

@@ -1,3 +1,5 @@
+//! What groups took, by their numbers.
+
 ghost use Rattle.std.specs.Prelude.{◌≡◌, ◌+◌, ◌<◌, ◌≤◌, [], length, slice_get, slice_set, replicate, Some, None, IfOk};
 ghost use Rattle.onig_match.specs.Piles.{Piled};
 

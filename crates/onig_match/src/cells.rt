@@ -1,3 +1,5 @@
+//! The parts of what is still to match.
+
 use pattern_defs::ListId;
 
 /// The rest of a list, from an item on, and what is behind it: the cell with this number, or nothing at 0.

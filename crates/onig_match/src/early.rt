@@ -1,3 +1,5 @@
+//! What misses by its first character.
+
 ghost use Rattle.std.specs.Prelude.{◌≡◌, ◌<◌, ◌≤◌, length, true, IfSome};
 ghost use Rattle.onig_match.specs.Machine.{subject};
 ghost use Rattle.onig_match.specs.Sound.{BeginsElse, BeginsInGroup, MissesEarly};

@@ -1,3 +1,5 @@
+//! The places to go back to, the steps of an attempt, and how it ends.
+
 use crate::cells::{NodeAt, Rest};
 use pattern_defs::Place;
 

@@ -1,3 +1,5 @@
+//! Items in room that was reserved, the last on top.
+
 ghost use Rattle.std.specs.Prelude.{◌≡◌, ◌<◌, ◌≤◌, ◌-◌, List, [], ◌∷◌, length, drop, slice_get, Some, IfOk, MatchOption};
 ghost use Rattle.onig_match.specs.Piles.{Piled};
 

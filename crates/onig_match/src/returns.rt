@@ -1,3 +1,5 @@
+//! Going back, and the ends of nested runs.
+
 ghost use Rattle.std.specs.Prelude.{◌≡◌, ◌+◌, ◌<◌, ◌≤◌, ◌^◌, [], ◌∷◌, List, length, drop, filter, nat_le, slice_get, Some, IfSome, MatchOption};
 ghost use Rattle.pattern_defs.specs.declared.nodes.Arm.{Arm};
 ghost use Rattle.pattern_defs.specs.Attempt.{Hit, Miss};

@@ -1,3 +1,5 @@
+//! Greedy repeats of a single character.
+
 ghost use Rattle.std.specs.Prelude.{◌≡◌, ◌+◌, ◌<◌, ◌≤◌, ◌^◌, [], ◌∷◌, cond, length, true, slice_get, MatchOption, Some, None};
 ghost use Rattle.char_sets.specs.Ranges.{in_set};
 ghost use Rattle.pattern_defs.specs.declared.nodes.PatNode.TheVariants.{One, Repeat};

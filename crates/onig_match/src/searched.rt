@@ -1,3 +1,5 @@
+//! What an attempt is about.
+
 use pattern_defs::Flags;
 use pattern_tree::Pattern;
 

@@ -1,3 +1,5 @@
+//! What a visit does.
+
 ghost use Rattle.std.specs.Prelude.{◌≡◌, true, false, not, ℕ, suc, ◌+◌, ◌-◌, ◌<◌, ◌≤◌, ◌^◌, length, slice_get, Option, Some, None, IsSome};
 ghost use Rattle.char_sets.specs.Ranges.{in_set};
 ghost use Rattle.pattern_defs.specs.declared.nodes.PatNode.{PatNode};

@@ -1,3 +1,5 @@
+//! Attempts to match a pattern at a place, and the room that they take.
+
 ghost use Rattle.std.specs.Prelude.{◌≡◌, ◌≢◌, ℕ, ◌+◌, ◌-◌, ◌*◌, ◌<◌, ◌≤◌, ◌^◌, [], length, replicate, slice_get, None, IfOk, IfSome, IsSomeAnd, IsTrue, option_and_then};
 ghost use Rattle.pattern_defs.specs.declared.outcomes.Outcome.TheVariants as outcomes;
 ghost use Rattle.pattern_defs.specs.Patterns.{is_flat, size_of, AreLists};

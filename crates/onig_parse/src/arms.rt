@@ -1,3 +1,5 @@
+//! Taking remarks, comments, back references and repeats into a body.
+
 ghost use Rattle.std.specs.Prelude.{◌≡◌, ◌+◌, ◌<◌, ◌≤◌, ◌∷◌, [], Some, None, false, drop, length, not, ◌==◌};
 ghost use Rattle.std.specs.List.{prefix_len};
 ghost use Rattle.syntax_defs.specs.Reading.{Answers};

@@ -1,3 +1,5 @@
+//! The body of a group that is being read.
+
 ghost use Rattle.std.specs.Prelude.{◌≡◌, ◌++◌, ◌∷◌, [], Some, None, IfOk, OnOk};
 ghost use Rattle.syntax_defs.specs.PatternSyntax.{empty_body, open_items, with_item};
 

@@ -1,3 +1,5 @@
+//! Bodies and forms in parentheses.
+
 ghost use Rattle.std.specs.Prelude.{◌≡◌, ◌+◌, ◌-◌, ◌≤◌, ◌<◌, ◌∷◌, [], Some, None, IfOk, drop, length};
 ghost use Rattle.syntax_defs.specs.Reading.{Answers};
 ghost use Rattle.syntax_defs.specs.PatternSyntax.{add, adds, body_at, closed, closed_by, empty_body, group_at, made, no_options, opened, parse, parsed_of, rest_of, single_item, start, step, step_by, steps, whole_by};

@@ -1,3 +1,5 @@
+//! The sets of classes, kept from their one reading.
+
 ghost use Rattle.std.specs.Prelude.{◌≡◌, ◌≤◌, ℕ, List, IsTrue, IfOk, IfSome, drop, length};
 ghost use Rattle.syntax_defs.specs.PatternMeaning.{IsSetRead};
 ghost use Rattle.syntax_defs.specs.Singles.{single_at};

@@ -1,3 +1,5 @@
+//! Tests of the whole text for items that can't be kept.
+
 ghost use Rattle.std.specs.Prelude.{◌≡◌, Some, None, is_none, map, if◌then◌else◌};
 ghost use Rattle.std.specs.List.{list_any};
 ghost use Rattle.syntax_defs.specs.Lengths.{earlier, late_among, late_in, late_place, length_of};

@@ -1,3 +1,5 @@
+//! The lengths of items and lists in a lookbehind.
+
 ghost use Rattle.std.specs.Prelude.{◌≡◌, ◌≤◌, ◌<◌, ◌^◌, map, IfOk};
 ghost use Rattle.std.specs.List.{list_all};
 ghost use Rattle.syntax_defs.specs.Lengths.{capped, choice_length, is_length, item_length, items_length, length_of, lengths_of, plus, repeat_length, same_length, times};

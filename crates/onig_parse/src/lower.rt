@@ -1,3 +1,5 @@
+//! Items become the nodes of a pattern.
+
 ghost use Rattle.std.specs.Prelude.{◌≡◌, ◌≤◌, None, drop, map, length, IfOk};
 ghost use Rattle.syntax_defs.specs.Lengths.{late_fault, late_in, late_place, lengths_of};
 ghost use Rattle.syntax_defs.specs.PatternMeaning.{FitsItem, FitsItems, IsSetRead, StandsFor, arm_of};

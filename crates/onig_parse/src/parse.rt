@@ -1,3 +1,5 @@
+//! The items of a pattern text, or the first fault that its reading meets.
+
 ghost use Rattle.std.specs.Prelude.{◌≡◌, ◌≤◌, length, IfOk};
 ghost use Rattle.syntax_defs.specs.Reading.{Answers};
 ghost use Rattle.syntax_defs.specs.PatternSyntax.{no_options, parse, start, whole_by};

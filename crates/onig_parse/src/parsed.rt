@@ -1,3 +1,5 @@
+//! A pattern text that is read: its lists of items and its groups.
+
 ghost use Rattle.std.specs.Prelude.{◌≡◌, find, map};
 ghost use Rattle.syntax_defs.specs.Lengths.{group_of, number_of_name};
 ghost use Rattle.syntax_defs.specs.PatternSyntax.{is_named};

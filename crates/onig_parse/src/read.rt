@@ -1,3 +1,5 @@
+//! Reading a pattern from its text.
+
 ghost use Rattle.std.specs.Prelude.{◌≡◌, ◌≤◌, false, length, IfOk};
 ghost use Rattle.std.specs.Str.{chars};
 ghost use Rattle.syntax_defs.specs.Lengths.{read_pattern, read_within, tested, kept_unless};

@@ -1,3 +1,5 @@
+//! A pattern text that is being read from left to right.
+
 ghost use Rattle.std.specs.Prelude.{◌≡◌, ◌+◌, ◌≤◌, [], ◌∷◌, ◌++◌, length, slice_get, IfOk, OnOk};
 ghost use Rattle.std.specs.List.{list_any};
 ghost use Rattle.syntax_defs.specs.PatternSyntax.{at_place, is_named, next_id, parsed_of, past, rest_of, start, with_group, with_list};

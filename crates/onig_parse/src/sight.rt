@@ -1,3 +1,5 @@
+//! What stands at the front of a pattern text.
+
 ghost use Rattle.std.specs.Prelude.{◌≡◌, ◌≤◌, length, drop, take, min, fold};
 ghost use Rattle.std.specs.List.{prefix_len};
 ghost use Rattle.syntax_defs.specs.declared.items.Form.TheVariants.{Sign};

@@ -1,3 +1,5 @@
+//! Reading a single character or set.
+
 ghost use Rattle.std.specs.Prelude.{◌≡◌, ◌≤◌, length, drop, slice_get, Some};
 ghost use Rattle.char_sets.specs.Ranges.{IsSetOf};
 ghost use Rattle.syntax_defs.specs.Reading.{Gives};

@@ -1,3 +1,5 @@
+//! Steps of reading: repeats and items.
+
 ghost use Rattle.std.specs.Prelude.{◌≡◌, ◌∷◌, [], ◌++◌, ◌+◌, ◌<◌, ◌≤◌, length, Some, IfOk, OnOk, drop, not, ◌==◌};
 ghost use Rattle.std.specs.List.{prefix_len};
 ghost use Rattle.syntax_defs.specs.PatternSyntax.{Seen, Body, Stepped, BodyReader, after_bar, atomic_of, behind_comment, body_items, body_list, comment_length, go_on, is_above, is_below, is_lazy, is_possessive, next_id, open_items, past, plain_repeat, possessive_repeat, repeat_at, repeat_on, rest_of, signed, step_by, with_list};

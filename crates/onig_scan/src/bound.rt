@@ -1,3 +1,5 @@
+//! How many visits nodes take at most.
+
 ghost use Rattle.std.specs.Prelude.{◌≡◌, ◌<◌, ◌≤◌, ◌+◌, ◌∷◌, [], IfSome, length, take, Option};
 ghost use Rattle.pattern_defs.specs.Patterns.{nodes_of, IsNode, AreNodes, AllIds, AllArms, AreBounds as IsLeastWithin};
 ghost use Rattle.pattern_defs.specs.declared.nodes.PatNode.TheVariants.{Repeat};

@@ -1,3 +1,5 @@
+//! A pattern of a scanner, and where it may match.
+
 ghost use Rattle.std.specs.Prelude.{◌≡◌, ℕ, ◌+◌, ◌<◌, ◌≤◌, ◌^◌, true, false, length, IfOk, IfSome, IsSomeAnd, IsTrue};
 ghost use Rattle.onig_scan.specs.Rows.{IsSpared, IsSparedAt, IsSparedPast};
 ghost use Rattle.std.specs.Rc.{rc_value};

@@ -1,3 +1,5 @@
+//! Characters of which one stands wherever nodes match.
+
 ghost use Rattle.std.specs.Prelude.{◌≡◌, ◌≤◌, ◌+◌, [], true, false, IfOk, IfSome, IsSomeAnd, IsTrue};
 ghost use Rattle.onig_scan.specs.Fronts.{IsWithin, IsWithout, IsWider};
 ghost use Rattle.onig_scan.specs.Rows.{HasNone, HasNoneBefore};

@@ -1,3 +1,5 @@
+//! The characters without which a pattern doesn't match.
+
 ghost use Rattle.std.specs.Prelude.{◌≡◌, ◌<◌, ◌+◌, ◌∷◌, [], IfOk, IfSome, length, take};
 ghost use Rattle.pattern_defs.specs.Patterns.{nodes_of, IsNode, AreNodes, AllIds};
 ghost use Rattle.pattern_defs.specs.declared.nodes.PatNode.TheVariants.{Ahead};

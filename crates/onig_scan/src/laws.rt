@@ -1,3 +1,5 @@
+//! A law: a greater budget changes no answer of a search that isn't spent.
+
 ghost use Rattle.std.specs.Prelude.{◌≡◌, ◌≢◌, ℕ, ◌+◌, List};
 ghost use Rattle.pattern_defs.specs.declared.outcomes.Flags.{Flags};
 ghost use Rattle.pattern_defs.specs.declared.outcomes.Found.TheVariants as found;

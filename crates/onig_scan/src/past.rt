@@ -1,3 +1,5 @@
+//! The characters of which a pattern needs one before a place.
+
 ghost use Rattle.std.specs.Prelude.{◌≡◌, ◌<◌, ◌+◌, ◌∷◌, [], Bool, IfOk, IfSome, length, take};
 ghost use Rattle.pattern_defs.specs.Patterns.{NodeLists, nodes_of, IsNode, AreNodes, AllIds, AllArms};
 ghost use Rattle.pattern_defs.specs.declared.nodes.PatNode.TheVariants.{One, At, Behind};

@@ -1,3 +1,5 @@
+//! Which patterns may match at a place, by the rows of its characters.
+
 ghost use Rattle.std.specs.Prelude.{◌≡◌, ◌+◌, ◌-◌, ◌*◌, ◌/◌, ◌<◌, ◌≤◌, ◌^◌, false, length, slice_get, IfOk, IfSome};
 ghost use Rattle.char_sets.specs.Named.{is_word};
 ghost use Rattle.pattern_defs.specs.Attempt.{char_before, is_char};

@@ -1,3 +1,5 @@
+//! Patterns that are searched for together, and the first that matches.
+
 ghost use Rattle.std.specs.Prelude.{◌≡◌, ℕ, ◌+◌, ◌*◌, ◌<◌, ◌≤◌, ◌^◌, All, length, map, slice_get, true, None, IfNone, IfOk, IfSome, IsSomeAnd};
 ghost use Rattle.std.specs.Rc.{rc_value};
 ghost use Rattle.pattern_defs.specs.declared.outcomes.Flags.{Flags};

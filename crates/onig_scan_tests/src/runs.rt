@@ -1,3 +1,5 @@
+//! Tests that show that what is done in one step takes the visits that its table says.
+
 use crate::searches::faults;
 use std::test::Fail;
 

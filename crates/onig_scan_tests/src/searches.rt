@@ -1,3 +1,5 @@
+//! Tests that show what patterns answer by tables, and that the first match is found.
+
 use onig_match::{Work, attempt};
 use onig_parse::read_pattern;
 use onig_scan::{Flags, Found, Outcome, Scanner};

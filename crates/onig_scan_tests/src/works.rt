@@ -1,3 +1,5 @@
+//! A test that shows that there are no captures before the first hit.
+
 use onig_match::Work;
 use std::test::Fail;
 

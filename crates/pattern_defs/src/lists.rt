@@ -1,3 +1,5 @@
+//! Lists of numbers of node lists, and of the arms of a lookbehind.
+
 use crate::nodes::{Arm, ListId};
 use text_pos::Items;
 

@@ -1,3 +1,5 @@
+//! The nodes of a pattern.
+
 use crate::lists::{Arms, ListIds};
 use char_sets::CharSet;
 

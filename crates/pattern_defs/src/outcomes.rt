@@ -1,3 +1,5 @@
+//! What an attempt and a search answer, and what a search knows of its text.
+
 /// What a search knows of its text. `first` says whether `\A` holds at 0, and `anchor` where `\G` holds, in characters
 /// from 0.
 #[derive(Clone, Copy, Debug, PartialEq, Eq)]

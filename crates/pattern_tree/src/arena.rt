@@ -1,3 +1,5 @@
+//! Numbered lists of nodes, one behind another.
+
 ghost use Rattle.std.specs.Prelude.{◌≡◌, ◌<◌, ◌≤◌, [], ◌∷◌, ◌++◌, length, slice_index, sum_by, IfOk, OnOk, OnErr};
 ghost use Rattle.pattern_defs.specs.Patterns.{nodes_of};
 
