@@ -1,3 +1,5 @@
+//! The test whether marks before and behind changes agree outside them.
+
 ghost use Rattle.std.specs.Prelude.{◌≡◌, ◌<◌, ◌^◌, ◌↔◌, IsTrue, length, IfOk, IfSome, IfNone};
 ghost use Rattle.change_defs.specs.declared.Placed.{Placed};
 ghost use Rattle.agreement_check.specs.Checks.{AreSameBy, AgreeBy, AreAgreed, IsRefused, MayBeReused, moved_marks};

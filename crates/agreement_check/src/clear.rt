@@ -1,3 +1,5 @@
+//! Which marks are clear of all changes, which none cuts, and where the clear ones are in the new text.
+
 ghost use Rattle.std.specs.Prelude.{◌≡◌, true, false, filter, IfOk, IfSome, IfNone};
 ghost use Rattle.std.specs.List.{list_all};
 ghost use Rattle.change_defs.specs.Agreement.{start_of, end_of, is_clear_of, is_within, is_clear, is_uncut};

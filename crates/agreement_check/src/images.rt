@@ -1,3 +1,5 @@
+//! The place of the new text that an old place is, and sums of lengths of 32 bits.
+
 ghost use Rattle.std.specs.Prelude.{◌≡◌, true, false, IfSome, IfNone};
 ghost use Rattle.text_pos.specs.Lengths.{plus};
 ghost use Rattle.change_defs.specs.Changes.{is_less, rest_of, carried, first_joint, end_before, image_by, is_inside, turned};

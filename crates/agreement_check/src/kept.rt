@@ -1,3 +1,5 @@
+//! Whether places of old lines outside changes have their places in new lines.
+
 ghost use Rattle.std.specs.Prelude.{◌≡◌, ◌<◌, ◌^◌, length, Some, None};
 ghost use Rattle.std.specs.List.{list_all};
 ghost use Rattle.tree_defs.specs.Ends.{in_lines};

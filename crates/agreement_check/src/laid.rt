@@ -1,3 +1,5 @@
+//! Changes in order with their places in both texts, and the changes that lead back.
+
 ghost use Rattle.std.specs.Prelude.{◌≡◌, true, false, map, IfOk, IfSome, IfNone};
 ghost use Rattle.change_defs.specs.Changes.{is_less, placed, placed_at, placed_fits, all_fit, are_in_order, turned};
 

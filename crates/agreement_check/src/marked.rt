@@ -1,3 +1,5 @@
+//! Whether the marks of lines stand in order, in their lines, and open kinds below 64.
+
 ghost use Rattle.std.specs.Prelude.{◌↔◌, ◌<◌, ◌≤◌, IsTrue};
 ghost use Rattle.mark_source.specs.Source.{IsMarked, IsRole};
 ghost use Rattle.agreement_check.specs.Checks.{AreSound};

@@ -1,3 +1,5 @@
+//! What agreement sees of a text: its marks, the lengths of its lines, and its end.
+
 ghost use Rattle.std.specs.Prelude.{◌≡◌, ◌<◌, ◌++◌, ◌^◌, true, map, length, IfOk, OnOk};
 ghost use Rattle.pairing_defs.specs.Marks.{on_line};
 ghost use Rattle.std.specs.List.{list_all};

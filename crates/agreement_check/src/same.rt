@@ -1,3 +1,5 @@
+//! Whether two lists of marks are equal.
+
 ghost use Rattle.std.specs.Prelude.{◌≡◌, ◌↔◌, IsTrue};
 
 use pairing_defs::{Mark, Role};

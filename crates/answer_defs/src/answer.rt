@@ -1,3 +1,5 @@
+//! Questions that can be asked of a text, what is answered to them, and brackets as they are answered.
+
 use crate::pair_answer::{GuideRows, PairRows, Twin};
 use crate::token_answer::TypedTokens;
 use text_pos::{Chars, Items, Pos};

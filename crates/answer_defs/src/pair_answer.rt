@@ -1,3 +1,5 @@
+//! Pairs, guides and partners as they are answered.
+
 use crate::answer::MarkAt;
 use text_pos::{Items, Span};
 

@@ -1,3 +1,5 @@
+//! Why a question has no answer.
+
 /// Why a question has no answer, in the order of the tests. The causes are this project's own.
 #[derive(Clone, Copy, Debug, PartialEq, Eq)]
 pub enum QuestionRefusal {

@@ -1,3 +1,5 @@
+//! Tokens as they are answered, with their scopes and standard types.
+
 ghost use Rattle.std.specs.Prelude.{◌≡◌, [], ◌∷◌, ◌++◌, OnOk, OnErr};
 
 use scope_names::Scopes;

@@ -1,3 +1,5 @@
+//! Nodes of the tree of brackets, which are shared and keep their length, height and depth.
+
 ghost use Rattle.std.specs.Prelude.{◌≡◌, ℕ, ◌+◌, ◌<◌, ◌^◌, ◌↔◌, ◌≤◌, Bool, false, IsTrue, IfOk};
 ghost use Rattle.text_pos.specs.KindSet.{has_kind};
 ghost use Rattle.text_pos.specs.Lengths.{plus};

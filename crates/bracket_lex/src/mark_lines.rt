@@ -1,3 +1,5 @@
+//! The marks of a text's lines, in lists that share their lines.
+
 ghost use Rattle.std.specs.Prelude.{◌≡◌, ◌<◌, ◌≤◌, ◌+◌, [], ◌∷◌, ◌++◌, List, length, take, drop, slice_index_or, slice_set, IfOk, OnOk, OnErr};
 ghost use Rattle.bracket_marks.specs.MarkedLine.{MarkedLine, text_end};
 

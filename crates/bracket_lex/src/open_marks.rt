@@ -1,3 +1,5 @@
+//! The stack of open openers that gives each mark its row, going forward over the text.
+
 ghost use Rattle.std.specs.Prelude.{◌≡◌, ◌<◌, ◌≤◌, ◌+◌, ◌^◌, ◌∷◌, ◌++◌, [], List, ℕ, length, map, reverse, take, slice_index_or, MatchOption, OnOk};
 ghost use Rattle.pairing_defs.specs.Marks.{on_line};
 ghost use Rattle.pairing_defs.specs.Pairing.{Entry, Placed, of_kind, from_last, opener_row, after_opener, closer_row, left_open, rows_by, open_by, placed_from, open_after};

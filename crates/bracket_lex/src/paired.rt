@@ -1,3 +1,5 @@
+//! Pairs the marks of a text into rows.
+
 ghost use Rattle.std.specs.Prelude.{◌≡◌, ◌<◌, ◌^◌, List, length, IfOk};
 ghost use Rattle.pairing_defs.specs.declared.Row.{Row};
 ghost use Rattle.pairing_defs.specs.Pairing.{paired};

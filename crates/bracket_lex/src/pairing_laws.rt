@@ -1,3 +1,5 @@
+//! Laws of pairing: rows are marks, pairs are nested, and levels count open rows.
+
 ghost use Rattle.bracket_lex.specs.RowLaws.{RowsAreMarksInOrder, ClosersHaveRows, MarksWithinTheLimitHaveRows};
 ghost use Rattle.bracket_lex.specs.LevelLaws.{OpenersCountTheOpen, LoneClosersCountTheOpen, OneMoreCloserHasARow, OneMoreOpenerHasARowBelowTheLimit};
 ghost use Rattle.bracket_lex.specs.InsideLaws.{InsidesEndAtTheFirstCloser, OpenInsidesEndWithTheText, ClosersHaveNoInside};

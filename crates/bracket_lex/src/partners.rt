@@ -1,3 +1,5 @@
+//! Gives rows their colours and inner ends, and openers their partners, going backward over the rows.
+
 ghost use Rattle.std.specs.Prelude.{◌≡◌, ◌<◌, ◌≤◌, ◌^◌, List, ℕ, Option, length, map, reverse, OnOk};
 ghost use Rattle.pairing_defs.specs.Pairing.{Removal, removal_by, colour_of, row_of, rows_from};
 ghost use Rattle.bracket_lex.specs.Pairing.{placed_of, first_for};

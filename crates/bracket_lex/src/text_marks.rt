@@ -1,3 +1,5 @@
+//! The marks of a text of which each line is one token of type Other.
+
 ghost use Rattle.std.specs.Prelude.{◌≡◌, ◌<◌, ◌^◌, length, map, IfOk};
 ghost use Rattle.text_defs.specs.Text.{lines_of};
 ghost use Rattle.text_defs.specs.Place.{place_of};

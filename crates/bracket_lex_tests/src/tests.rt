@@ -1,3 +1,5 @@
+//! Tests show that texts have the right rows, and that lists of lines keep their marks.
+
 use bracket_lex::{Brackets, LineMark, LineMarks, MarkLines, Paired, Role, Row};
 use line_text::Text;
 use scope_defs::{StdType, TypeRun};

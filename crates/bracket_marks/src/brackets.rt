@@ -1,3 +1,5 @@
+//! The texts that are brackets, made of pairs, and the marks of a line by the types of its tokens.
+
 ghost use Rattle.std.specs.Prelude.{◌≡◌, ◌<◌, ◌≤◌, ◌+◌, ◌-◌, ◌^◌, ◌++◌, ℕ, max, length, IfOk};
 ghost use Rattle.std.specs.Option.{option_copied};
 ghost use Rattle.pairing_defs.specs.Marks.{counts_by, bracket_at, marks_from, marks_of};

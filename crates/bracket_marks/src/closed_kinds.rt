@@ -1,3 +1,5 @@
+//! The kinds of openers that a text closes.
+
 ghost use Rattle.std.specs.Prelude.{◌≡◌, ◌<◌, ◌≤◌, ◌==◌, ◌||◌, ℕ, false, if◌then◌else◌, length};
 ghost use Rattle.text_pos.specs.KindSet.{has_kind};
 ghost use Rattle.pairing_defs.specs.BracketTexts.{are_paired, closed_by, kinds_of};

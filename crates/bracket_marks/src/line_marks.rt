@@ -1,3 +1,5 @@
+//! The marks of one line, and how many characters it has.
+
 ghost use Rattle.std.specs.Prelude.{◌≡◌, [], List, IfOk};
 ghost use Rattle.pairing_defs.specs.declared.LineMark.{LineMark};
 

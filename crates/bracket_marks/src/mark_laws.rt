@@ -1,3 +1,5 @@
+//! Laws of marks: they never overlap, and they are the longest texts that stand there, with none missed.
+
 ghost use Rattle.bracket_marks.specs.MarkLaws.{MarksAreInTheLine, MarksRise, MarksAreTheLongestTexts, NoTextIsMissed, LongLinesHaveNoMarks};
 
 /// Whatever the texts and the line are, marks don't overlap, and each begins behind the one before it.

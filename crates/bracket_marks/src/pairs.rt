@@ -1,3 +1,5 @@
+//! Which pairs of texts are kept, their openers and closers each once, and the first text that is too long.
+
 ghost use Rattle.std.specs.Prelude.{◌≡◌, length, IfOk};
 ghost use Rattle.std.specs.Str.{chars};
 ghost use Rattle.pairing_defs.specs.BracketTexts.{is_among, is_dropped, opens_one, closes_one, kept_pairs, once, kinds_of, closers_of as all_closers, longer_length, first_long};

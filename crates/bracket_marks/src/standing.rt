@@ -1,3 +1,5 @@
+//! Whether a bracket's text stands at a column, in tokens that count, and cuts no word.
+
 ghost use Rattle.std.specs.Prelude.{◌≡◌, ◌≤◌, ◌+◌, length, slice_get};
 ghost use Rattle.pairing_defs.specs.Marks.{all_count, char_before, counts_by, cuts_no_word, is_word_char, stands_at};
 

@@ -1,3 +1,5 @@
+//! The bracket texts of the kept pairs: their characters, and what they open or close.
+
 ghost use Rattle.std.specs.Prelude.{◌≡◌, ◌≤◌, ◌++◌, length, map, IfOk, OnOk};
 ghost use Rattle.std.specs.Str.{chars};
 ghost use Rattle.pairing_defs.specs.BracketTexts.{closers_of, closer_text, kinds_of, once, openers_from, texts_of};

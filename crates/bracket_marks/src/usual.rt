@@ -1,3 +1,5 @@
+//! The usual brackets: braces, square brackets and parentheses.
+
 ghost use Rattle.std.specs.Prelude.{◌≡◌, ◌∷◌, ◌++◌, [], IfOk, OnOk};
 ghost use Rattle.pairing_defs.specs.Marks.{usual_texts};
 ghost use Rattle.pairing_defs.specs.BracketTexts.{usual_pairs};

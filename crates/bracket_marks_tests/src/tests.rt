@@ -1,3 +1,5 @@
+//! Tests show which texts are marks, that only type Other has marks, and where the limits of brackets lie.
+
 use bracket_marks::{BracketRefusal, Brackets, LineMarks};
 use line_text::Text;
 use pairing_defs::{PairText, PairTexts, Role};

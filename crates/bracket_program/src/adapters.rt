@@ -1,3 +1,5 @@
+//! Files of the system, standard input and standard output, as the program reads and writes them.
+
 ghost use Rattle.std.specs.Prelude.{◌≡◌, ℕ, ◌<◌, ◌≤◌, ◌-◌, ◌^◌, List, Option, None, length, min, take, IfOk, OnOk, OnErr};
 ghost use Rattle.std.specs.Io.KnownBytes.{ReadConsumes, WriteAppends};
 ghost use Rattle.piece_io.specs.Told.{Told, Untold, GivesFrom, GivesFront, appended, risen};

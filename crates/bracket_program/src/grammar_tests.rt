@@ -1,3 +1,5 @@
+//! Tests show that sessions over grammar and bracket files have the worked replies.
+
 use crate::status::Status;
 use crate::tests::run_over;
 use piece_io::{MemFiles, MemSink, MemSource};

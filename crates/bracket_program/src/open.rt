@@ -1,3 +1,5 @@
+//! Opens the text, grammar and bracket files that the words name, each refused with its status.
+
 ghost use Rattle.std.specs.Prelude.{◌≡◌, ◌≤◌, ℕ, List, true, option_map, Some, None, IfOk, IfErr, OnOk};
 ghost use Rattle.generator_defs.specs.GeneratedText.{generated_text};
 ghost use Rattle.text_defs.specs.Text.{text_of};

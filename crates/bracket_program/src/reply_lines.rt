@@ -1,3 +1,5 @@
+//! Answers each line of the script with a reply, and applies its edits to the document.
+
 ghost use Rattle.std.specs.Prelude.{◌≡◌, ◌≤◌, map, false, None, IfOk, IfErr, OnOk, OnErr};
 ghost use Rattle.text_defs.specs.Batch.{batch_refusal, edited};
 ghost use Rattle.piece_io.specs.Told.{appended};

@@ -1,3 +1,5 @@
+//! The whole run of the program: from words, files and a script to what is written and a status.
+
 ghost use Rattle.std.specs.Prelude.{◌≡◌, ◌⊎◌, ◌<◌, ◌≤◌, ℕ, List, map, length, None, Some, IfSome, string_bytes};
 ghost use Rattle.piece_io.specs.Told.{risen};
 ghost use Rattle.session_defs.specs.declared.file_kind.FileKind.{FileKind};

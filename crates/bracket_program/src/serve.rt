@@ -1,3 +1,5 @@
+//! Answers the whole script: reads it by pieces, and writes the open reply and then one for each line.
+
 ghost use Rattle.std.specs.Prelude.{◌≡◌, ◌≤◌, ◌<◌, ◌+◌, length, IfOk, IfErr, OnOk, OnErr};
 ghost use Rattle.piece_io.specs.Told.{GivesFront, risen};
 ghost use Rattle.session_defs.specs.Session.{opened};

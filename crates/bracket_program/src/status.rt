@@ -1,3 +1,5 @@
+//! How a run ended, with the number of its status and its line on standard error.
+
 ghost use Rattle.std.specs.Prelude.{◌≡◌};
 ghost use Rattle.bracket_program.specs.declared.status.Status.TheVariants as status;
 

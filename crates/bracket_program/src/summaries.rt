@@ -1,3 +1,5 @@
+//! Tells of a generated text: a summary at first, and one behind each fiftieth of its edits.
+
 ghost use Rattle.std.specs.Prelude.{◌≡◌, ◌≤◌, ◌<◌, ◌+◌, [], ◌∷◌, None, IfOk, IfErr, OnErr, OnOk};
 ghost use Rattle.line_text.specs.BatchRefusals.{HasCause};
 ghost use Rattle.piece_io.specs.Told.{appended};

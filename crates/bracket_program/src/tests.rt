@@ -1,3 +1,5 @@
+//! Tests show the worked replies of sessions, whole replies where reads or writes fail, and the limits.
+
 ghost use Rattle.std.specs.Prelude.{◌≡◌, ◌<◌, None};
 
 use crate::adapters::FileStore;

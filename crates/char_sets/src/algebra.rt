@@ -1,3 +1,5 @@
+//! Sets made of other sets: union, intersection, difference, complement, and both ASCII cases.
+
 ghost use Rattle.std.specs.Prelude.{◌≡◌, ◌<◌, ℕ, Bool, true, ◌&&◌, ◌||◌, not, IfOk};
 ghost use Rattle.std.specs.Int.{bit_at};
 ghost use Rattle.char_sets.specs.Ranges.{bit, in_set, rises, IsSetOf};

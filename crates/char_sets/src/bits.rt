@@ -1,3 +1,5 @@
+//! Which of 64 codes in a row are in ranges, a bit for each.
+
 ghost use Rattle.std.specs.Prelude.{◌≡◌, ◌≤◌, ◌<◌, ◌+◌, ℕ, true};
 ghost use Rattle.std.specs.Int.{bit_at};
 ghost use Rattle.char_sets.specs.Case.{is_from_to};

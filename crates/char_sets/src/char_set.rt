@@ -1,3 +1,5 @@
+//! Sets of characters as rising ranges, with two words for the codes below 128.
+
 ghost use Rattle.std.specs.Prelude.{◌≡◌, ◌≤◌, ◌<◌, ◌+◌, ◌&&◌, ℕ, [], ◌∷◌, true, IfOk, length, nat_le};
 ghost use Rattle.char_sets.specs.Ranges.{in_set, rises, IsSetOf, AreBitsOf};
 

@@ -1,3 +1,5 @@
+//! Ranges of ASCII codes that named sets are made of.
+
 // The ranges of the sets that are written out.
 use crate::char_set::CharRange;
 

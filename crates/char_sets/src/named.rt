@@ -1,3 +1,5 @@
+//! The sets of characters that have names, by POSIX and by the general categories of Unicode.
+
 ghost use Rattle.std.specs.Prelude.{◌≡◌, ◌<◌, ◌||◌, ℕ, true, IfOk};
 ghost use Rattle.ucd_table.specs.Steps.{run_value, IsPartition};
 ghost use Rattle.unicode.specs.GeneralCategory.{general_category};

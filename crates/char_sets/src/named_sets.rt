@@ -1,3 +1,5 @@
+//! Named sets and their complements, each made when first asked for and then shared.
+
 ghost use Rattle.std.specs.Prelude.{◌≡◌, ℕ, Bool, IsTrue, IfOk};
 ghost use Rattle.char_sets.specs.Named.{in_named, in_named_if};
 ghost use Rattle.char_sets.specs.Ranges.{IsSetOf};

@@ -1,3 +1,5 @@
+//! The ranges of a set: none, one, or several that sets share.
+
 ghost use Rattle.std.specs.Prelude.{◌≡◌, IfOk};
 ghost use Rattle.char_sets.specs.Kept.{ranges_of};
 

@@ -1,3 +1,5 @@
+//! How far codes are all in the ranges of a set or all outside, found by halves.
+
 ghost use Rattle.std.specs.Prelude.{◌≡◌, ◌≤◌, ◌<◌, ℕ, true, OnOk};
 ghost use Rattle.char_sets.specs.Places.{IsReached, IsNear};
 ghost use Rattle.char_sets.specs.Ranges.{in_set, rises, closed};

@@ -1,3 +1,5 @@
+//! What the words of a command line ask for: a text, names of files, and limits.
+
 ghost use Rattle.std.specs.Prelude.{◌≡◌, ◌≤◌, ℕ, map, drop, option_map, string_bytes, Some, None, IfOk, IfSome, false, if◌then◌else◌};
 ghost use Rattle.session_defs.specs.Words.{asked_for, request_of, request_with, is_digit, is_number, is_name_or_none, is_within, limits_in, no_options, number_or, said, subject_of, value_of};
 ghost use Rattle.clap.specs.Words.{app_of, rule_of};

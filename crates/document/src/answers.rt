@@ -1,3 +1,5 @@
+//! Answers to questions about a text: from its rows, its tokens and its characters.
+
 ghost use Rattle.std.specs.Prelude.{◌≡◌, ◌<◌, ◌≤◌, ◌^◌, List, true, None, length, IfOk};
 ghost use Rattle.text_defs.specs.Text.{line_count, line_of};
 ghost use Rattle.scope_defs.specs.Frames.{Token};

@@ -1,3 +1,5 @@
+//! An open text with its brackets and limits, which takes edits and answers questions.
+
 ghost use Rattle.std.specs.Prelude.{◌≡◌, ◌<◌, ◌≤◌, [], false, None, All, length, slice_index_or, IfOk, IfErr, OnOk, OnErr};
 ghost use Rattle.text_defs.specs.Text.{line_count};
 ghost use Rattle.text_defs.specs.Batch.{batch_refusal, edited};

@@ -1,3 +1,5 @@
+//! The run over the lines of a text, for the marks of all lines and the tokens of one.
+
 ghost use Rattle.std.specs.Prelude.{◌≡◌, ◌<◌, ◌^◌, [], ◌∷◌, ◌++◌, length, slice_index_or, IfOk, OnOk};
 ghost use Rattle.text_defs.specs.Text.{line_count};
 ghost use Rattle.text_defs.specs.Place.{place_of};

@@ -1,3 +1,5 @@
+//! Why a question about a text has no answer: its lines are tested before its places.
+
 ghost use Rattle.std.specs.Prelude.{◌≡◌};
 ghost use Rattle.answer_defs.specs.Answers.{is_range, line_refusal, place_refusal, question_refusal, range_refusal};
 

@@ -1,3 +1,5 @@
+//! What is told of the rows of a text: among it, rows without partner and the greatest depth.
+
 ghost use Rattle.std.specs.Prelude.{◌≡◌, ◌<◌, ◌^◌, All, length, count_by};
 ghost use Rattle.generator_defs.specs.Summary.{deepest, is_bad, summary};
 

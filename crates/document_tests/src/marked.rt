@@ -1,3 +1,5 @@
+//! A source of tokens for tests: each line is one token, and a leading # opens or closes a comment.
+
 ghost use Rattle.std.specs.Prelude.{◌≡◌, true, false, IfOk};
 ghost use Rattle.document_tests.specs.Marked.{frame_where, is_mark, open_behind, scopes_where, start_where};
 

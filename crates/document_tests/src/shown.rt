@@ -1,3 +1,5 @@
+//! Answers and refusals of a document shown as texts, for tests.
+
 use answer_defs::{Answer, BracketRow, Question, Twin, TypedToken};
 use document::{AskRefusal, Document};
 use line_runs::LineRuns;

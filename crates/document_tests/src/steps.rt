@@ -1,3 +1,5 @@
+//! Steps of a test over a document: questions with wanted answers, and edits accepted or refused.
+
 use crate::shown::{asked, insert};
 use answer_defs::Question;
 use bracket_lex::Brackets;

@@ -1,3 +1,5 @@
+//! Tests show that token types decide which brackets count, and how questions are answered or refused.
+
 use crate::marked::Marked;
 use crate::steps::{LIMITS, Step, all_go};
 use answer_defs::Question;

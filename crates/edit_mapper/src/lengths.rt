@@ -1,3 +1,5 @@
+//! Order, sums and differences of lengths, and places as far behind a joint as others.
+
 ghost use Rattle.std.specs.Prelude.{◌≡◌, ◌+◌, ◌^◌, ◌<◌, true, false};
 ghost use Rattle.text_pos.specs.Lengths.{plus};
 ghost use Rattle.tree_defs.specs.Ends.{fits};

@@ -1,3 +1,5 @@
+//! Leads from a place of a text back to the text before its changes, and to the next change.
+
 ghost use Rattle.std.specs.Prelude.{◌≡◌, IsSome};
 ghost use Rattle.change_defs.specs.Changes.{before, distance};
 

@@ -1,3 +1,5 @@
+//! Finds the changes around a place of the new text.
+
 ghost use Rattle.std.specs.Prelude.{◌≡◌, ◌<◌, ◌≤◌, length, take, slice_get, not, true, false, Option};
 ghost use Rattle.std.specs.List.Sorted.{IsPartitionPoint};
 ghost use Rattle.change_defs.specs.Changes.{is_less, first_joint};

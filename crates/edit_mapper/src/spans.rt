@@ -1,3 +1,5 @@
+//! Changes of a text in order, with their places.
+
 ghost use Rattle.std.specs.Prelude.{◌≡◌, [], ◌∷◌, ◌++◌, true, OnOk, OnErr};
 ghost use Rattle.change_defs.specs.Changes.{placed, are_in_order, all_fit, starts_behind, fits_behind};
 

@@ -1,3 +1,5 @@
+//! Changes for tests, made of pieces or of pseudorandom numbers.
+
 ghost use Rattle.std.specs.Prelude.{◌≡◌, ◌<◌, IfSome, true};
 ghost use Rattle.text_pos.specs.Lengths.{plus};
 ghost use Rattle.tree_defs.specs.Ends.{fits};

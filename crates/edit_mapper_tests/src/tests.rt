@@ -1,3 +1,5 @@
+//! Tests show that search by halves finds what a walk finds, and that places lead back over changes.
+
 use crate::changes::{Both, Numbers, Piece, changes_by, changes_of};
 use crate::walk::{Found, found_by_walk};
 use edit_mapper::{Mapper, Spans};

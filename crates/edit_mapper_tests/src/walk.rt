@@ -1,3 +1,5 @@
+//! A plain walk over changes, with which tests compare what is found by halves.
+
 use edit_mapper::Change;
 use text_pos::Length;
 

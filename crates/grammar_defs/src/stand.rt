@@ -1,3 +1,5 @@
+//! Where a byte of JSON with comments stands: in a string, in a comment, or outside both.
+
 /// Where a byte of JSON with comments stands.
 #[derive(Clone, Copy, Debug, PartialEq, Eq)]
 pub enum Stand {

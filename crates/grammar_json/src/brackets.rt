@@ -1,3 +1,5 @@
+//! Reads the pairs of a bracket file, or tells why it is none.
+
 ghost use Rattle.std.specs.Prelude.{◌≡◌, ◌∷◌, [], filter, not, option_map, IfOk};
 ghost use Rattle.std.specs.Fmt.{decimal};
 ghost use Rattle.serde_json.specs.Data.{array, string};

@@ -1,3 +1,5 @@
+//! The number that a capture's key is.
+
 ghost use Rattle.std.specs.Prelude.{◌≡◌, ◌≤◌, ◌+◌, ◌-◌, ◌*◌, Some, None, if◌then◌else◌, true, length};
 ghost use Rattle.std.specs.List.{list_all};
 ghost use Rattle.grammar_defs.specs.RuleShape.{is_digit, is_capture_key, number_after, begins_with_zero};

@@ -1,3 +1,5 @@
+//! How many rules a grammar has, with those in captures.
+
 ghost use Rattle.std.specs.Prelude.{◌≡◌, min, map, ◌^◌, ◌-◌};
 ghost use Rattle.grammar_defs.specs.GrammarShape.{rules_of_list, rules_of_rule, rules_of_named, rule_count, capture_rules, own_rule};
 ghost use Rattle.grammar_json.specs.FileViews.{rule_of, entry_rules, if_there};

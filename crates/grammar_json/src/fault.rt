@@ -1,3 +1,5 @@
+//! Why a value of a file is not read, with the JSON pointer to the first wrong value.
+
 ghost use Rattle.std.specs.Prelude.{◌≡◌, ◌++◌, List, OnOk, IfOk};
 ghost use Rattle.grammar_defs.specs.Pointers.{Pointer, below, all_below, escaped, escaped_byte, itself};
 ghost use Rattle.std.specs.Fmt.{decimal};

@@ -1,3 +1,5 @@
+//! Rules and captures as a grammar's file has them, before includes are resolved.
+
 ghost use Rattle.std.specs.Prelude.{◌≡◌, [], ◌∷◌, ◌++◌, OnOk, OnErr};
 ghost use Rattle.grammar_json.specs.FileViews.{entry_list, entry_then, capture_list, capture_then, if_there, joined};
 ghost use Rattle.grammar_defs.specs.FileRules.{nothing};

@@ -1,3 +1,5 @@
+//! Reads a TextMate grammar from the bytes of its file, or tells why it is none.
+
 ghost use Rattle.std.specs.Prelude.{◌≡◌, ◌++◌, map, codes, unwrap_or, []};
 ghost use Rattle.serde_json.specs.View.{view};
 ghost use Rattle.grammar_defs.specs.RuleShape.{filled_at, members_of, patterns_in};

@@ -1,3 +1,5 @@
+//! The JSON value of a file's bytes, where it is one.
+
 ghost use Rattle.std.specs.Prelude.{◌≡◌, IfOk, option_map};
 ghost use Rattle.serde_json.specs.View.{view};
 ghost use Rattle.grammar_defs.specs.GrammarShape.{json_of, json_of_file};

@@ -1,3 +1,5 @@
+//! Puts spaces in place of comments and trailing commas in JSON.
+
 ghost use Rattle.std.specs.Prelude.{◌≡◌, IfOk};
 ghost use Rattle.grammar_defs.specs.Loosening.{without_mark, next_is, after, in_comment, blank, without_comment, without_comments, is_blank, closes_next, behind, is_outside, without_comma, without_commas, loosened};
 ghost use Rattle.grammar_defs.specs.declared.stand.Stand.TheVariants.{Outside};

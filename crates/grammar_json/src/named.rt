@@ -1,3 +1,5 @@
+//! Reads rules with names, as a repository or injections have them.
+
 ghost use Rattle.std.specs.Prelude.{◌≡◌, ◌++◌, map, codes};
 ghost use Rattle.serde_json.specs.Find.{get};
 ghost use Rattle.serde_json.specs.View.{view, members_view};

@@ -1,3 +1,5 @@
+//! Reads a rule from JSON, with the rules and captures in it.
+
 ghost use Rattle.std.specs.Prelude.{◌≡◌, ◌≤◌, ℕ, List, false, true};
 ghost use Rattle.serde_json.specs.View.{view, items_view, members_view};
 ghost use Rattle.grammar_defs.specs.FileRules.{FileList};

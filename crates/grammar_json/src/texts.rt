@@ -1,3 +1,5 @@
+//! Reads the strings and the flag of a rule.
+
 ghost use Rattle.std.specs.Prelude.{◌≡◌, ◌++◌, codes, option_and_then};
 ghost use Rattle.serde_json.specs.View.{view};
 ghost use Rattle.serde_json.specs.Find.{get, as_str};

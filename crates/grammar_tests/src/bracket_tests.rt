@@ -1,3 +1,5 @@
+//! Tests show which pairs a bracket file has, and where a wrong one is refused.
+
 use grammar_json::{
     Capture, Captures, Entries, Entry, PairRefusal, PairText, PairTexts, read_brackets,
     read_grammar,

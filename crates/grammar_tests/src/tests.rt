@@ -1,3 +1,5 @@
+//! Tests show which rules a grammar's file has, and where a wrong one is refused.
+
 use grammar_json::{Entry, GrammarRefusal, loosen, read_grammar};
 use std::alloc::Global;
 use std::test::Fail;

@@ -1,3 +1,5 @@
+//! Obeys the commands of standard input, which give grammars and patterns to measure.
+
 use crate::fields::plain_text;
 use crate::files::{tell_brackets, tell_grammar, tell_pattern};
 use crate::repeated::repeat;

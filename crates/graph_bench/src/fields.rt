@@ -1,3 +1,5 @@
+//! The text of a command's field, with its escapes undone.
+
 use std::alloc::{AllocError, Global};
 
 /// The text of a field, of which some characters are written by two.

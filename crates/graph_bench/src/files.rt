@@ -1,3 +1,5 @@
+//! Tells what a grammar's file, a bracket file or a pattern gives, or why it is refused.
+
 ghost use Rattle.std.specs.Prelude.{◌≤◌, IfOk};
 ghost use Rattle.grammar_defs.specs.GrammarShape.{rule_count};
 ghost use Rattle.grammar_json.specs.GrammarViews.{grammar_view};

@@ -1,3 +1,5 @@
+//! Reads a grammar's file and patterns and makes its graph many times over, to measure the time.
+
 ghost use Rattle.std.specs.Prelude.{◌≤◌};
 ghost use Rattle.grammar_defs.specs.GrammarShape.{rule_count};
 ghost use Rattle.grammar_json.specs.GrammarViews.{grammar_view};
