@@ -1,4 +1,4 @@
-//! The turns of a run, and the captures of a match told in it.
+//! The run over a text, turn by turn, and what each turn does with a match.
 
 ghost use Rattle.std.specs.Prelude.{◌≡◌, ℕ, ◌+◌, ◌*◌, ◌-◌, ◌<◌, ◌≤◌, ◌^◌, List, [], length, map, All, OnOk, IfOk, IfSome, IsTrue, Some, true, false, ◌==◌, ◌&&◌};
 ghost use Rattle.pattern_defs.specs.Attempt.{Captures, capture_of};

@@ -1,4 +1,4 @@
-//! Tests that show that a reader and a walk of a tree find the same nodes.
+//! Tests that show that a reader finds the longest node at each offset, as a walk of the tree does.
 
 ghost use Rattle.std.specs.Prelude.{◌≡◌, ◌<◌};
 ghost use Rattle.text_pos.specs.Lengths.{IsLess};

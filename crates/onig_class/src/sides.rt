@@ -1,4 +1,4 @@
-//! The characters of a class so far, as unions and what they have together.
+//! The characters of a class so far: its unions, and what those before the last && have together.
 
 ghost use Rattle.std.specs.Prelude.{◌≡◌, ◌<◌, ◌||◌, ℕ, Bool, IfOk, OnOk};
 ghost use Rattle.char_sets.specs.Ranges.{in_set, IsSetOf};

@@ -1,4 +1,4 @@
-//! Words, names and numbers in a pattern text.
+//! The heads of forms in parentheses, and the options that hold within a form.
 
 ghost use Rattle.std.specs.Prelude.{◌≡◌, ◌+◌, ◌*◌, ◌≤◌, drop, length, IfOk};
 ghost use Rattle.std.specs.Char.{is_ascii_digit};
