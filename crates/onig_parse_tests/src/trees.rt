@@ -1,3 +1,4 @@
+//! A tree that is built, not read.
 use pattern_tree::{Anchor, PatNode, PatternDraft};
 use std::test::Fail;
 
